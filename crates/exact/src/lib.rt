@@ -1,0 +1,1 @@
+// The exact values: definitions and laws. There is no code to run.

@@ -1,0 +1,11 @@
+pub mod Polynomial
+pub mod Fractions
+pub mod FractionProver
+pub mod Quotients
+pub mod Sums
+pub mod Subtraction
+pub mod Strict
+pub mod SignedFractions
+pub mod Integers
+pub mod Rounding
+pub mod Machine

@@ -1,0 +1,4 @@
+pub mod Fraction
+pub mod Signed
+pub mod Integer
+pub mod Rounding
