@@ -28,6 +28,12 @@ refl≐ x = record { there = λ n t. t; back = λ n t. t; lows = λ n t. refl≈
 pub trans≐ : {x y z : Value} → x ≐ y → y ≐ z → x ≐ z
 trans≐ h k = record { there = λ n t. k .there n (h .there n t); back = λ n t. h .back n (k .back n t); lows = λ n t. trans≈ₛ (h .lows n t) (k .lows n (h .there n t)); highs = λ n t. trans≈ₛ (h .highs n t) (k .highs n (h .there n t)) }
 
+pub sym≐ : {x y : Value} → x ≐ y → y ≐ x
+sym≐ h = record { there = h .back; back = h .there; lows = λ n t. turned (h .lows n (h .back n t)); highs = λ n t. turned (h .highs n (h .back n t)) }
+  where
+    turned : {a b : Signed} → a ≈ₛ b → b ≈ₛ a
+    turned e = record { to = e .from; from = e .to }
+
 -- what holds of the fractions of one holds of the other
 pub ⊴-same : {x x' y y' : Value} → x ≐ x' → y ≐ y' → x' ⊴ y' → x ⊴ y
 ⊴-same p q h = record { apart = λ n m s t. trans≼ₛ (p .lows n s .to) (trans≼ₛ (h .apart n m (p .there n s) (q .there m t)) (q .highs m t .from)) }

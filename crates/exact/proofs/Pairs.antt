@@ -1,19 +1,24 @@
 -- A pair of fractions around a plain value: what is at most and at least a sum, a product, a quotient and c − x, from pairs of what they are made of;
 -- and so attainment, β and G from pairs of the exponentials, of J and of ln r.
 use Prim.Native.Nat.{ℕ, _<_}
+use mathlib.Core.Path.{_≡_}
+use mathlib.Core.List.{[], _∷_}
 use lib.Dec.{T, leb}
-use Rattle.numbers.specs.Fraction.{Frac, _≼_, 1F, _⊕_, _⊗_, _÷_, _∸_}
+use native.Mathlib.Omega.{arith}
+use Rattle.numbers.specs.Fraction.{Frac, _≼_, whole, 1F, _⊕_, _⊗_, _÷_, _∸_}
 use Rattle.numbers.specs.Signed.{ofFrac}
 use Rattle.numbers.proofs.Fractions.{refl≼, trans≼, add≼, mul≼, ÷≼}
-use Rattle.numbers.proofs.Subtraction.{less-mono}
+use Rattle.numbers.proofs.FractionProver.{qv, qn, qf, _+'_, _*'_, q-le, le, q-from}
+use Rattle.numbers.proofs.Subtraction.{less-on, less-least, less-mono}
 use Rattle.numbers.proofs.SignedFractions.{ofFrac≼, ofFrac-order}
-use Rattle.exact.specs.Value.{Value, AtMost, AtLeast, and}
+use Rattle.exact.specs.Value.{Value, AtMost, AtLeast, and, number, inMillionths}
 use Rattle.exact.specs.Share.{CableNumbers, millionths, exponent}
-use Rattle.exact.proofs.Plain.{Plain, and-0, and-1, known, addP, mulP, lessP, quotP, above-0}
+use Rattle.exact.proofs.Plain.{Plain, _⊴ₚ_, and-0, and-1, known, addP, mulP, lessP, quotP, above-0, known⊴ₚ}
 use Rattle.exact.proofs.Values.{lift}
 use Rattle.exact.proofs.Parts.{expP}
 use Rattle.exact.proofs.Certified.{Below, Above, below-high, above-low}
-use Rattle.exact.proofs.Lifting.{_≐_, most-same, least-same}
+use Rattle.exact.proofs.Slices.{none}
+use Rattle.exact.proofs.Lifting.{_≐_, refl≐, trans≐, sym≐, most-same, least-same, mul≐, lift-mul}
 use Rattle.exact.proofs.Share.{attainmentP, betaP, surfaceP, shareP}
 
 pub record Around (low high : Frac) (x : Plain) : Type 0 where
@@ -67,6 +72,30 @@ around-most s h = most-same s (record { most = λ n t. ofFrac≼ (h .most n t) }
 pub around-least : {a b : Frac} {x : Plain} {y : Value} → y ≐ lift x → Around a b x → AtLeast (ofFrac b) y
 around-least s h = least-same s (record { least = λ n t. ofFrac≼ (h .least n t) })
 
+from-millionths : (n : ℕ) → whole n ≼ whole 1000000 ⊗ millionths n
+from-millionths n = omega arith
+
+to-millionths : (n : ℕ) → whole 1000000 ⊗ millionths n ≼ whole n
+to-millionths n = omega arith
+
+-- whole numbers of millionths around a value are around the value in millionths
+module _ {x : Plain} {y : Value} (s : y ≐ lift x) (sound : x ⊴ₚ x) where
+  in-millionths : inMillionths y ≐ lift (mulP (known (whole 1000000)) x)
+  in-millionths = trans≐ (mul≐ (refl≐ (number (whole 1000000))) s) (lift-mul (known (whole 1000000)) x (known⊴ₚ (refl≼ (whole 1000000))) sound)
+
+  pub millionths-most : {low high : ℕ} → Around (millionths low) (millionths high) x → AtMost (ofFrac (whole low)) (inMillionths y)
+  millionths-most {low} {high} a = around-most in-millionths (around-wider (from-millionths low) (to-millionths high) (around-mul (around-known (whole 1000000)) a))
+
+  pub millionths-least : {low high : ℕ} → Around (millionths low) (millionths high) x → AtLeast (ofFrac (whole high)) (inMillionths y)
+  millionths-least {low} {high} a = around-least in-millionths (around-wider (from-millionths low) (to-millionths high) (around-mul (around-known (whole 1000000)) a))
+
+  -- and back, at every order with bounds
+  pub most-millionths : {v : ℕ} → AtMost (ofFrac (whole v)) (inMillionths y) → (n : ℕ) → T (x .ok n) → whole v ≼ whole 1000000 ⊗ x .high n
+  most-millionths {v} h n t = ofFrac-order (whole v) (whole 1000000 ⊗ x .high n) (most-same (sym≐ in-millionths) h .most n t)
+
+  pub least-millionths : {v : ℕ} → AtLeast (ofFrac (whole v)) (inMillionths y) → (n : ℕ) → T (x .ok n) → whole 1000000 ⊗ x .low n ≼ whole v
+  least-millionths {v} h n t = ofFrac-order (whole 1000000 ⊗ x .low n) (whole v) (least-same (sym≐ in-millionths) h .least n t)
+
 -- ---- the parts of the share
 module _ (c : CableNumbers) (m : ℕ) where
   pub around-attainment : {fl fh sl sh : Frac} → Around fl fh (expP (exponent (c .fast) m)) → Around sl sh (expP (exponent (c .slow) m))
@@ -78,3 +107,19 @@ module _ (c : CableNumbers) (m : ℕ) where
 
   pub around-share : {xl xh al ah : Frac} → Around xl xh (surfaceP c m) → Around al ah (attainmentP c m) → Around (xl ⊗ al) (xh ⊗ ah) (shareP c m)
   around-share x a = around-mul x a
+
+-- ---- with k = 0 the share is the attainment
+module _ (c : CableNumbers) (m : ℕ) (none : c .k ≡ 0) where
+  surface-high-one : (n : ℕ) → surfaceP c m .high n ≼ 1F
+  surface-high-one n = rw none (q-from ((1F ∸ millionths 0) ∷ betaP c m .high n ∷ []) (le (qn 1) (qv 0) (qn 1) ∷ []) (qv 0 +' qf 0 1000000 *' qv 1) (qn 1) tt
+      (less-least 1F (millionths 0) 1F (q-le [] (qn 1) (qf 0 1000000 +' qn 1) tt)))
+
+  surface-low-one : (n : ℕ) → 1F ≼ surfaceP c m .low n
+  surface-low-one n = rw none (q-from ((1F ∸ millionths 0) ∷ betaP c m .low n ∷ []) (le (qn 1) (qn 1) (qf 0 1000000 +' qv 0) ∷ []) (qn 1) (qv 0 +' qf 0 1000000 *' qv 1) tt
+      (less-on 1F (millionths 0)))
+
+  pub share-high-attainment : (n : ℕ) → shareP c m .high n ≼ attainmentP c m .high n
+  share-high-attainment n = q-from (surfaceP c m .high n ∷ attainmentP c m .high n ∷ []) (le (qv 1) (qv 0) (qn 1) ∷ []) (qv 0 *' qv 1) (qv 1) tt (surface-high-one n)
+
+  pub share-low-attainment : (n : ℕ) → attainmentP c m .low n ≼ shareP c m .low n
+  share-low-attainment n = q-from (surfaceP c m .low n ∷ attainmentP c m .low n ∷ []) (le (qv 1) (qn 1) (qv 0) ∷ []) (qv 1) (qv 0 *' qv 1) tt (surface-low-one n)

@@ -55,10 +55,10 @@ module _ (c : CableNumbers) (m : ℕ) (a : Accepted c m) where
   minutes-above = omega (arith, a .minutes-from)
 
   d-above : 0 < c .d
-  d-above = omega (arith, a .d-from)
+  d-above = omega (arith, a .cable .d-from)
 
   s-above : 0 < c .s
-  s-above = omega (arith, a .s-from)
+  s-above = omega (arith, a .cable .s-from)
 
   near-den : 0 < 8 * seconds m * c .s
   near-den = omega (arith, mul-pos minutes-above s-above)
@@ -73,7 +73,7 @@ module _ (c : CableNumbers) (m : ℕ) (a : Accepted c m) where
   near-above = per-above (8 * seconds m * c .s) (omega (arith, ratio-den)) near-den
 
   pub two-below-ratio : 1F ⊕ 1F ≼ ratio c
-  two-below-ratio = trans≼ (q-le [] (qn 1 +' qn 1) (qn 2) tt) (per≼ 2 1 (1600 * c .l * c .l) (c .d * c .d) (zero-lt-suc 0) ratio-den (omega (arith, mul-le-mul (a .d-to) (a .d-to), mul-le-mul (a .l-from) (a .l-from))))
+  two-below-ratio = trans≼ (q-le [] (qn 1 +' qn 1) (qn 2) tt) (per≼ 2 1 (1600 * c .l * c .l) (c .d * c .d) (zero-lt-suc 0) ratio-den (omega (arith, mul-le-mul (a .cable .d-to) (a .cable .d-to), mul-le-mul (a .cable .l-from) (a .cable .l-from))))
 
   -- r − 1 and q − p are not cut off
   pub ratio-uncut : 1F ⊕ beyondOne c ≈ ratio c
@@ -102,10 +102,10 @@ module _ (c : CableNumbers) (m : ℕ) (a : Accepted c m) where
       span-uncut far-is ratio-uncut
 
   pub weight-one : millionths (c .w) ≼ 1F
-  weight-one = millionths-one (a .w-to)
+  weight-one = millionths-one (a .cable .w-to)
 
   pub surface-one : millionths (c .k) ≼ 1F
-  surface-one = millionths-one (a .k-to)
+  surface-one = millionths-one (a .cable .k-to)
 
 pub log⊴ₚ : (c : CableNumbers) → logP c ⊴ₚ logP c
 log⊴ₚ c = ln⊴ₚ 1F (beyondOne c) 1F (beyondOne c) one-above one-above (refl≼ (beyondOne c ⊗ 1F))

@@ -135,8 +135,8 @@ module _ (c : CableNumbers) (m : ℕ) (a : Accepted c m) where
   lag-high : lagP c m .high bottomOrder ⊗ (1F ⊕ minute) ≼ 1F
   lag-high = q-from (millionths (c .w) ∷ (1F ∸ millionths (c .w)) ∷ expHigh fastBy bottomOrder ∷ expHigh slowBy bottomOrder ∷ minute ∷ [])
       (le (qv 0) (qv 2 *' (qn 1 +' qv 4)) (qn 1) ∷ le (qv 1) (qv 3 *' (qn 1 +' qv 4)) (qn 1) ∷ le (qn 1) (qv 0 +' qv 1) (qn 1) ∷ []) ((qv 0 *' qv 2 +' qv 1 *' qv 3) *' (qn 1 +' qv 4)) (qn 1) tt
-      (high-under fastBy minute (2 * fastBy .num + 2 * slowBy .num + 2 * (nearEnd c m ⊕ spanOf c m) .num) (minute-or-more (c .fast) (a .fast-from)) (omega arith))
-      (high-under slowBy minute (2 * fastBy .num + 2 * slowBy .num + 2 * (nearEnd c m ⊕ spanOf c m) .num) (minute-or-more (c .slow) (a .slow-from)) (omega arith)) (less-exact (weight-one c m a))
+      (high-under fastBy minute (2 * fastBy .num + 2 * slowBy .num + 2 * (nearEnd c m ⊕ spanOf c m) .num) (minute-or-more (c .fast) (a .cable .fast-from)) (omega arith))
+      (high-under slowBy minute (2 * fastBy .num + 2 * slowBy .num + 2 * (nearEnd c m ⊕ spanOf c m) .num) (minute-or-more (c .slow) (a .cable .slow-from)) (omega arith)) (less-exact (weight-one c m a))
 
   attainment-low-above : 0 < (attainmentP c m .low bottomOrder) .num
   attainment-low-above = above {a = 60 per 1000060} (omega arith) (q-cancel (lagP c m .high bottomOrder ∷ (1F ∸ lagP c m .high bottomOrder) ∷ [])

@@ -14,8 +14,8 @@ pub record CableNumbers : Type 0 where
   pub fast : ℕ
   pub slow : ℕ
 
--- the ranges of 'The cable' and of refusals 3 and 9
-pub record Accepted (c : CableNumbers) (minutes : ℕ) : Type 0 where
+-- the ranges of 'The cable', and the slow rate at most the fast one
+pub record InRange (c : CableNumbers) : Type 0 where
   pub d-from : 100 ≤ c .d
   pub d-to : c .d ≤ 1500
   pub l-from : 300 ≤ c .l
@@ -28,6 +28,10 @@ pub record Accepted (c : CableNumbers) (minutes : ℕ) : Type 0 where
   pub fast-to : c .fast ≤ 100000
   pub slow-from : 1 ≤ c .slow
   pub slow-to : c .slow ≤ c .fast
+
+-- a cable in range and a minute count that may be asked
+pub record Accepted (c : CableNumbers) (minutes : ℕ) : Type 0 where
+  pub cable : InRange c
   pub minutes-from : 1 ≤ minutes
   pub minutes-to : minutes ≤ 2880
 

@@ -3,7 +3,7 @@
 use Prim.Native.Nat.{ℕ, zero, suc, _≤_, _<_}
 use mathlib.Core.Bool.{Bool, true, false}
 use lib.Dec.{T, leb}
-use Rattle.numbers.specs.Fraction.{Frac, 1F, _÷_, _∸_}
+use Rattle.numbers.specs.Fraction.{Frac, whole, 1F, _÷_, _∸_}
 use Rattle.numbers.specs.Signed.{Signed, _≼ₛ_, ofFrac, amount, negS, addS, least4, most4}
 use Rattle.exact.specs.Exponential.{expLow, expHigh}
 use Rattle.exact.specs.Cutting.{integralHigh, integralLow, lnHigh, lnLow}
@@ -94,3 +94,7 @@ reciprocal y =
 infixl 7 _/ᵥ_
 abbrev pub _/ᵥ_ : Value → Value → Value
 x /ᵥ y = x ·ᵥ reciprocal y
+
+-- a value in millionths
+abbrev pub inMillionths : Value → Value
+inMillionths x = number (whole 1000000) ·ᵥ x

@@ -11,7 +11,7 @@ use lib.Signed.{ltZ, mag, nonNeg}
 use mir.Syntax.{w64}
 use mir.Val.{SFits, Fits, toZ, ofZ}
 use mir.Facts.{toZ-ofZ}
-use Rattle.numbers.specs.Integer.{lesser, greater}
+use Rattle.numbers.specs.Integer.{up, lesser, greater}
 use Rattle.numbers.proofs.Integers.{lin-eq, add-lin, neg-up, neg-dn, size-neg}
 
 abbrev pub seen : ℤ → ℤ
@@ -20,6 +20,10 @@ seen z = toZ w64 (ofZ w64 z)
 -- the result of a call comes with the bare bound
 pub result-seen : (z : ℤ) → mag z < 2 ^ 63 → seen z ≡ z
 result-seen z h = toZ-ofZ (record { sfits = h })
+
+-- what is known of an argument as it is seen is known of it
+pub seen-up : (z : ℤ) {n : ℕ} → SFits w64 z → n ≡ up (seen z) → n ≡ up z
+seen-up z f e = rw (toZ-ofZ f) at e
 
 pub fits : (z : ℤ) → natAbs z < 2 ^ 63 → SFits w64 z
 fits (pos n) h = record { sfits = omega arith }
@@ -74,6 +78,10 @@ module _ {z : ℤ} (f : SFits w64 z) where
 pub natural-casts : (z : ℤ) → SFits w64 z → T (nonNeg z) → T (nonNeg z) × Fits w64 (natAbs z)
 natural-casts (pos n) f t = (tt, record { fits = omega (arith, f .sfits) })
 natural-casts (negsuc n) f t = absurd t
+
+pub natural-size : (z : ℤ) → T (nonNeg z) → natAbs z ≡ up z
+natural-size (pos n) t = refl
+natural-size (negsuc n) t = absurd t
 
 pub flipped-casts : (z : ℤ) → SFits w64 z → ltZ z (pos 0) ≡ true → T (nonNeg (flipped z)) × Fits w64 (natAbs (flipped z))
 flipped-casts (pos n) f e = absurd (omega (arith, ltb-true n 0 e))

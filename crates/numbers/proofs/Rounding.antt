@@ -8,6 +8,7 @@ use native.Mathlib.Omega.{arith}
 use lib.IntN.{ℤ, pos, negsuc, negℤ, natAbs, sucℤ, predℤ, _*ℤ_, negℤ-negℤ, negℤ-sucℤ}
 use lib.Signed.{_≤ℤ_, _<ℤ_, ltZ, mag, ≤ℤ-refl}
 use borrow.Author.Tests.{ltb-true}
+use Rattle.numbers.specs.Integer.{up}
 use Rattle.numbers.specs.Rounding.{floorZ, ceilZ, ceilN}
 use Rattle.numbers.proofs.Integers.{le-lin, lin-le, lt-lin, lin-lt, suc-lin, mul-lin, size-neg, negℤ-*ℤ, ≤ℤ-trans, ≤ℤ-antisym, <ℤ-sucℤ, negℤ-mono, negℤ-strict, *ℤ-cancel}
 
@@ -108,7 +109,7 @@ unfolding floorZ
 floor-neg (pos a) d e = absurd (omega (arith, ltb-true a 0 e))
 floor-neg (negsuc a) d e = refl
 
-pub floor-pos : (z : ℤ) (d : ℕ) → ltZ z (pos 0) ≡ false → floorZ z d ≡ pos (mag z / d)
+pub floor-pos : (z : ℤ) (d : ℕ) → ltZ z (pos 0) ≡ false → floorZ z d ≡ pos (up z / d)
 unfolding floorZ
 floor-pos (pos a) d e = refl
 floor-pos (negsuc a) d e = let z : _≡_ {A = ℕ} 0 1 = cc in absurd (omega arith)

@@ -1,7 +1,9 @@
 -- Fractions of either sign, each the difference of two fractions not below 0.
 use Prim.Native.Nat.{ℕ}
 use mathlib.Core.Bool.{Bool, true, false}
-use Rattle.numbers.specs.Fraction.{Frac, _≼_, _≺_, _≼?_, _⊕_, _⊗_, _∸_, 0F}
+use lib.IntN.{ℤ}
+use Rattle.numbers.specs.Fraction.{Frac, _≼_, _≺_, _≼?_, _⊕_, _⊗_, _∸_, whole, 0F}
+use Rattle.numbers.specs.Integer.{up, dn}
 
 pub record Signed : Type 0 where
   pub plus : Frac
@@ -25,6 +27,10 @@ pub record _≈ₛ_ (a b : Signed) : Type 0 where
 
 abbrev pub ofFrac : Frac → Signed
 ofFrac a = record { plus = a; minus = 0F }
+
+-- an integer
+abbrev pub ofInt : ℤ → Signed
+ofInt z = record { plus = whole (up z); minus = whole (dn z) }
 
 -- what of it is above 0
 abbrev pub amount : Signed → Frac

@@ -1,0 +1,113 @@
+/* The share in unproved C, by the same fixed point, as a baseline for bench/run: 200,000 shares of one case. */
+#include <stdint.h>
+#include <stdio.h>
+#include <stdlib.h>
+
+typedef uint64_t u64;
+typedef struct { u64 low, high; } Pair;
+
+#define ONE (1ull << 30)
+#define MILLION 1000000ull
+#define BETA_ONE 10000000ull
+
+static Pair series(u64 theta, u64 tau)
+{
+    u64 power = tau, term = theta + tau, sum = ONE + term / 2;
+    for (u64 k = 2; k <= 19; k++) {
+        power = power * tau / ONE / k;
+        term = theta * term / ONE + power;
+        sum += term / (k + 1);
+    }
+    return (Pair){ sum, sum + 172 + 2 * (term + 15) / 20 };
+}
+
+static Pair exp_fraction(u64 x)
+{
+    u64 term = x, sum = ONE + x;
+    for (u64 k = 2; k <= 12; k++) {
+        term = term * x / ONE / k;
+        sum += term;
+    }
+    u64 high = ONE * ONE / sum + 1;
+    return (Pair){ ONE * ONE / (sum + 49), high < ONE ? high : ONE };
+}
+
+static Pair exp_neg(u64 num, u64 den)
+{
+    u64 m = num / den;
+    Pair p = { 0, ONE };
+    if (m > 16)
+        m = 17;
+    else
+        p = exp_fraction(num % den * ONE / den);
+    for (; m > 0; m--)
+        p = (Pair){ p.low * 395007542 / ONE, p.high * 395007543 / ONE + 1 };
+    return p;
+}
+
+static Pair logarithm_slice(u64 x, u64 y)
+{
+    u64 theta = (y - x) * ONE / y;
+    Pair q = series(theta, 0);
+    return (Pair){ theta * q.low / ONE, (theta + 1) * q.high / ONE + 1 };
+}
+
+static Pair logarithm(u64 x, u64 y)
+{
+    Pair sum = { 0, 0 }, two = logarithm_slice(1, 2);
+    for (; 2 * x <= y; x += x)
+        sum = (Pair){ sum.low + two.low, sum.high + two.high };
+    Pair rest = logarithm_slice(x, y);
+    return (Pair){ sum.low + rest.low, sum.high + rest.high };
+}
+
+static Pair heat_slice(u64 x, u64 y, u64 diffusion)
+{
+    u64 v = y - x, theta = v * ONE / y;
+    Pair e = exp_neg(y, diffusion), q = series(theta, v * ONE / diffusion);
+    return (Pair){ e.low * q.low / ONE * theta / ONE, (e.high * q.high / ONE + 1) * (theta + 1) / ONE + 1 };
+}
+
+static u64 least(u64 a, u64 b) { return a < b ? a : b; }
+
+static Pair heating_integral(u64 near, u64 far, u64 diffusion, u64 top)
+{
+    Pair sum = { 0, 0 };
+    u64 y = far, edge = 16 * diffusion;
+    if (y > edge) {
+        y = near > edge ? near : edge;
+        sum.high = least(top * exp_neg(y, diffusion).high / ONE + 1, top);
+    }
+    while (y > near) {
+        u64 step = least(y / 2, diffusion), x = y - near > step ? y - step : near;
+        Pair p = heat_slice(x, y, diffusion);
+        sum = (Pair){ least(sum.low + p.low, top), least(sum.high + p.high, top) };
+        y = x;
+    }
+    return sum;
+}
+
+__attribute__((noinline)) static Pair share(u64 d, u64 l, u64 s, u64 k, u64 w, u64 fast, u64 slow, u64 minutes)
+{
+    u64 t = 60 * minutes;
+    Pair half = logarithm(d, 40 * l), n = { 2 * half.low, 2 * half.high };
+    Pair j = heating_integral(5 * d * d, 8000 * l * l, 8 * t * s, n.high);
+    u64 bl = least(j.low * BETA_ONE / n.high, BETA_ONE), bh = least(j.high * BETA_ONE / n.low + 1, BETA_ONE);
+    u64 xl = (MILLION * BETA_ONE - k * (BETA_ONE - bl)) / 10000, xh = (MILLION * BETA_ONE - k * (BETA_ONE - bh)) / 10000 + 1;
+    Pair p = exp_neg(fast * t, MILLION), q = exp_neg(slow * t, MILLION);
+    u64 al = (MILLION * ONE - w * p.high - (MILLION - w) * q.high) / MILLION;
+    u64 ah = (MILLION * ONE - w * p.low - (MILLION - w) * q.low) / MILLION + 1;
+    return (Pair){ least(xl * al / (1000 * ONE), MILLION), least(xh * ah / (1000 * ONE) + 1, MILLION) };
+}
+
+int main(void)
+{
+    int c = getchar(), worst = c == '2';
+    u64 ordered = 0, minutes = c == '0' ? 60 : c == '1' ? 360 : 2880;
+    for (u64 i = 0; i < 200000; i++) {
+        Pair p = share(worst ? 100 : 500, worst ? 5000 : 1000, worst ? 2000 : 500, 600000 + i, 500000, 1000, 100, minutes);
+        ordered += p.low <= p.high;
+    }
+    printf("ordered %llu\n", (unsigned long long)ordered);
+    return 0;
+}

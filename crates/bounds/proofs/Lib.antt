@@ -1,0 +1,3 @@
+pub mod Enclosure
+pub mod Sizes
+pub mod Pairs

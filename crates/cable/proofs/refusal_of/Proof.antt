@@ -1,0 +1,19 @@
+-- `cable::refusal_of`: the arm of an accepted cable is ruled out by what is asked.
+use borrow.Author.Needs.{needs}
+use Rattle.cable.proofs.refusal_of.Statement.{statement}
+use Rattle.cable.proofs.refusal_of.Tie as tie
+
+enum-known-check : tie.Need-enum-known-check
+enum-known-check c = search needs
+
+enum-told : tie.Need-enum-told
+enum-told c = search needs
+
+returns : tie.Need-returns
+returns c = search needs
+
+returns-2 : tie.Need-returns-2
+returns-2 c = absurd (rw (c .enum-told .given .1) at (c .before .before .pre))
+
+pub refusal-of-spec : {M : Type 1} → statement M
+refusal-of-spec = tie.close (tie.spec enum-known-check enum-told returns returns-2)

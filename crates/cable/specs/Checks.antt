@@ -1,0 +1,89 @@
+-- Document 01, 'The cable' and 'When the desk is told no', numbers 2 and 3: the range of each field, the first refusal, and the diffusivity in use.
+use mathlib.Core.Bool.{Bool, true, false, cond, _&&_, _||_}
+use mathlib.Core.List.{List, [], _∷_}
+use Prim.Native.Nat.{ℕ, suc}
+use lib.Dec.{eqb, ltb}
+use Rattle.cable.specs.declared.Cable.{Cable}
+use Rattle.cable.specs.declared.Place.the-variants.{None, Field}
+use Rattle.cable.specs.declared.CableCheck.{CableCheck}
+use Rattle.cable.specs.declared.CableCheck.the-variants.{Accepted, Refused}
+
+-- The least and the greatest value of a field, and whether 0 is a value besides.
+pub record Range : Type 0 where
+  pub low : ℕ
+  pub high : ℕ
+  pub zero-too : Bool
+
+infix 70 _to_
+abbrev pub _to_ : ℕ → ℕ → Range
+low to high = record { low = low; high = high; zero-too = false }
+
+abbrev pub orZero : Range → Range
+orZero r = record { low = r .low; high = r .high; zero-too = true }
+
+-- The table's last column.
+abbrev pub ranges : List Range
+ranges =
+    100 to 1500  -- d
+    ∷ 300 to 5000  -- l
+    ∷ orZero (100 to 2000)  -- s
+    ∷ 0 to 1000000  -- k
+    ∷ 0 to 1000000  -- w
+    ∷ 1 to 100000  -- fast rate
+    ∷ 1 to 100000  -- slow rate
+    ∷ 50 to 2000  -- rated current
+    ∷ []
+
+-- The fields in table order.
+abbrev pub fields : Cable → List ℕ
+fields c =
+    c .diameter
+    ∷ c .depth
+    ∷ c .diffusivity
+    ∷ c .«surface_ratio»
+    ∷ c .«fast_weight»
+    ∷ c .«fast_rate»
+    ∷ c .«slow_rate»
+    ∷ c .rated
+    ∷ []
+
+abbrev pub outside : Range → ℕ → Bool
+outside r x = cond (r .zero-too && eqb x 0) false (ltb x (r .low) || ltb (r .high) x)
+
+-- The number of the first value outside its range, counted from k, or 0.
+abbrev pub firstOutside : ℕ → List Range → List ℕ → ℕ
+firstOutside k (r ∷ rs) (x ∷ xs) = cond (outside r x) k (firstOutside (suc k) rs xs)
+firstOutside k (r ∷ rs) [] = 0
+firstOutside k [] xs = 0
+
+unfoldable pub outsideField : Cable → ℕ
+outsideField c = firstOutside 1 ranges (fields c)
+
+-- The first refusal in the order of the numbers, or the cable as it is.
+unfoldable pub checked : Cable → CableCheck
+checked c =
+    cond (ltb 0 (outsideField c)) (Refused (record { number = 2; place = Field (outsideField c) }))
+    (cond (ltb (c .«fast_rate») (c .«slow_rate»)) (Refused (record { number = 3; place = None }))
+    (Accepted c))
+
+abbrev pub refuses : CableCheck → Bool
+refuses (Accepted c) = false
+refuses (Refused f) = true
+
+-- "or 0, which stands for 500"
+abbrev pub defaultDiffusivity : ℕ
+defaultDiffusivity = 500
+
+-- The cable with which everything is computed: the default for a diffusivity of 0.
+unfoldable pub inUse : ℕ → Cable → Cable
+inUse default c =
+    record {
+      diameter = c .diameter;
+      depth = c .depth;
+      diffusivity = cond (eqb (c .diffusivity) 0) default (c .diffusivity);
+      «surface_ratio» = c .«surface_ratio»;
+      «fast_weight» = c .«fast_weight»;
+      «fast_rate» = c .«fast_rate»;
+      «slow_rate» = c .«slow_rate»;
+      rated = c .rated;
+    }

@@ -1,0 +1,5 @@
+pub mod Checks
+pub mod Stated
+pub mod InRange
+pub mod Promises
+pub mod Examples

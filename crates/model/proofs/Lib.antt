@@ -1,0 +1,11 @@
+pub mod Rounding
+pub mod Exponential
+pub mod Series
+pub mod Logarithm
+pub mod Slice
+pub mod Walk
+pub mod Thetas
+pub mod Integral
+pub mod Share
+pub mod Cable
+pub mod Enclosure

@@ -1,0 +1,73 @@
+-- Worked values of the models. Each was computed beforehand, in another language, by the project's exact simulation of the algorithm (share.py of its
+-- prototypes, run for these arguments). There β is in units of 10^-7 and the surface factor is rounded after its subtraction, so of these
+-- two no values stand here; the shares come out the same.
+use mathlib.Core.Path.{_≡_, refl}
+use mathlib.Core.List.{List, [], _∷_}
+use Rattle.bounds.specs.Pair.{Pair, addP, lessP, scaledP, quotientP, timesP, dividedP, atMostP}
+use Rattle.numbers.specs.Rounding.{ceilN}
+use Rattle.model.specs.Scale.{one, half}
+use Rattle.model.specs.Exponential.{expTerm, expSum, fractionExpPair, decayed, expPair}
+use Rattle.model.specs.Series.{seriesTerm, seriesSum, seriesPair}
+use Rattle.model.specs.Logarithm.{powerOfTwo, logarithmSlice, doublings, logarithmAfter, logarithm}
+use Rattle.model.specs.Integral.{slicePair, nextEnd, walk, sliceStart, farPair, heatingIntegral}
+use Rattle.model.specs.Share.{beta, surfaceFactor, attainmentOf, attainment, shareOf, cableLogarithm, cableIntegral, attainedShare}
+
+-- e^(-0.36), e^0 and e^(-17)
+pub exponentials : _≡_ {A = List Pair}
+    (expPair 360000 1000000 ∷
+    expPair 0 7 ∷
+    expPair 17000000 1000000 ∷
+    [])
+    (record { low = 749124229; high = 749124254 } ∷
+    record { low = 1073741775; high = 1073741824 } ∷
+    record { low = 0; high = 45 } ∷
+    [])
+unfolding atMostP expTerm expSum quotientP fractionExpPair scaledP decayed expPair
+exponentials = refl
+
+-- the series where it is largest, θ = 1/2 and τ = 1
+pub series : _≡_ {A = List Pair} (seriesPair half one ∷ []) (record { low = 2705209321; high = 2705211007 } ∷ [])
+unfolding expTerm seriesTerm seriesSum seriesPair
+series = refl
+
+-- ln 80 and ln 2,000
+pub logarithms : _≡_ {A = List Pair}
+    (logarithm 500 40000 ∷
+    logarithm 100 200000 ∷
+    [])
+    (record { low = 4705164969; high = 4705166152 } ∷
+    record { low = 8161406339; high = 8161408398 } ∷
+    [])
+unfolding addP timesP expTerm scaledP seriesTerm seriesSum seriesPair powerOfTwo logarithmSlice doublings logarithmAfter logarithm
+logarithms = refl
+
+-- J from 3/2 to 25; and J of d 1,500, l 300, s 100 after a minute, which is all far slice
+pub integrals : _≡_ {A = List Pair}
+    (heatingIntegral 3 50 2 2147483648 ∷
+    heatingIntegral 11250000 720000000 48000 4465567558 ∷
+    [])
+    (record { low = 107395183; high = 107395472 } ∷
+    record { low = 0; high = 188 } ∷
+    [])
+unfolding addP atMostP expTerm expSum quotientP fractionExpPair scaledP decayed expPair seriesTerm seriesSum seriesPair slicePair nextEnd walk sliceStart farPair heatingIntegral
+integrals = refl
+
+-- w 500,000, fast 1,000, slow 100, after an hour
+pub attainments : _≡_ {A = List Pair} (attainment 500000 1000 100 3600 ∷ []) (record { low = 684510384; high = 684510399 } ∷ [])
+unfolding addP lessP timesP dividedP ceilN atMostP expTerm expSum quotientP fractionExpPair scaledP decayed expPair attainmentOf attainment
+attainments = refl
+
+-- shares after an hour; with k 0 and w 1,000,000 after two days; with the most slices; with none
+pub shares : _≡_ {A = List Pair}
+    (attainedShare 500 1000 500 600000 500000 1000 100 3600 ∷
+    attainedShare 500 1000 500 0 1000000 1000 100 172800 ∷
+    attainedShare 100 5000 2000 1000000 0 100000 1 172800 ∷
+    attainedShare 1500 300 100 1000000 1000000 100000 1 60 ∷
+    [])
+    (record { low = 340185; high = 340186 } ∷
+    record { low = 999999; high = 1000000 } ∷
+    record { low = 107974; high = 107976 } ∷
+    record { low = 0; high = 1 } ∷
+    [])
+unfolding addP lessP timesP dividedP ceilN atMostP expTerm expSum quotientP fractionExpPair scaledP decayed expPair seriesTerm seriesSum seriesPair powerOfTwo logarithmSlice doublings logarithmAfter logarithm slicePair nextEnd walk sliceStart farPair heatingIntegral beta surfaceFactor attainmentOf attainment shareOf cableLogarithm cableIntegral attainedShare
+shares = refl

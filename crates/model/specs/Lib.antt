@@ -1,0 +1,10 @@
+pub mod Scale
+pub mod Exponential
+pub mod Series
+pub mod Logarithm
+pub mod Integral
+pub mod Share
+pub mod Width
+pub mod Examples
+pub mod Encloses
+pub mod ShareEnclosed
