@@ -1,42 +1,34 @@
--- The sole claim: every row of the table holds of the definitions.
-use mathlib.Core.Path.{_≡_, refl}
-use mathlib.Core.List.{List, [], _∷_}
-use Prim.Native.Nat.{ℕ, suc, _*_}
-use lib.Dec.{T, leb, leb→le}
-use native.Mathlib.Omega.{arith}
-use Rattle.numbers.specs.Fraction.{Frac, _≺_, whole, _⊗_, _∸_}
-use Rattle.exact.specs.Share.{Accepted}
-use Rattle.exact.proofs.Share.{attainmentP}
-use Rattle.cable.specs.Checks.{inUse, defaultDiffusivity}
-use Rattle.cable.specs.InRange.{numbersOf}
-use Rattle.cable.specs.declared.Cable.{Cable}
-use Rattle.share.specs.Pair.{sharePair}
-use Rattle.share.proofs.Promises.{share-promised}
-use Rattle.cases.specs.Table.{Row, share-around, Meant, table, cableB, slowB}
-use Rattle.cases.proofs.Shares.{low-under, high-over}
+-- The sole claim: every row of the table holds of the definitions. A row without a name here is computed.
+use mathlib.Core.Path.{refl}
+use Rattle.numbers.specs.Rounding.{floorZ, ceilZ}
+use Rattle.bounds.specs.Operations.{addB, dividedB}
+use Rattle.cable.specs.Checks.{outsideField, checked}
+use Rattle.share.specs.Answer.{shareAnswer}
+use Rattle.sheet.specs.BigEndian.{bigEndian}
+use Rattle.sheet.specs.Layout.{wrongLength}
+use Rattle.sheet.specs.Header.{cableOf, checkedHeader}
+use Rattle.sheet.specs.Records.{recordOf, recordAt, checkedRecord}
+use Rattle.sheet.specs.Chain.{chainFrom}
+use Rattle.history.specs.Rise.{sumOf, riseOf}
+use Rattle.history.specs.Answer.{riseAnswer}
+use Rattle.cycle.specs.Answer.{factorFrom, factorAnswer}
+use Rattle.emergency.specs.Answer.{currentFrom, currentAnswer}
+use Rattle.cases.specs.Table.{Hold, all, _⨾_, table}
+use Rattle.cases.proofs.Shares.{C9, C10}
+use Rattle.cases.proofs.Rises.{C2}
+use Rattle.cases.proofs.Factors.{C3, C4}
+use Rattle.cases.proofs.Currents.{C5, C6, C7, C8}
 
-pub data Each (P : Row → Type 0) : List Row → Type 0 where
-  none : Each P []
-  more : {r : Row} {rs : List Row} → P r → Each P rs → Each P (r ∷ rs)
-
-below : (a b : Frac) → T (leb (suc (a .num * b .den)) (b .num * a .den)) → a ≺ b
-below a b h = record { cross = leb→le _ _ h }
-
-accepted-B : Accepted (numbersOf (inUse defaultDiffusivity cableB)) 1
-unfolding inUse
-accepted-B = omega arith
-
-accepted-slow : Accepted (numbersOf (inUse defaultDiffusivity slowB)) 1
-unfolding inUse
-accepted-slow = omega arith
-
-C9 : Meant (share-around cableB 1 997521 997522)
-unfolding inUse _∸_
-C9 = (low-under _ 1 accepted-B refl (sharePair cableB 1) (share-promised cableB 1 accepted-B) 30 tt 997521 (below _ _ tt), high-over _ 1 accepted-B refl (sharePair cableB 1) (share-promised cableB 1 accepted-B) 30 tt 997521 (below _ _ tt))
-
-C10 : Meant (share-around slowB 1 59 60)
-unfolding inUse _∸_
-C10 = (low-under _ 1 accepted-slow refl (sharePair slowB 1) (share-promised slowB 1 accepted-slow) 4 tt 59 (below _ _ tt), high-over _ 1 accepted-slow refl (sharePair slowB 1) (share-promised slowB 1 accepted-slow) 4 tt 59 (below _ _ tt))
-
-pub all-cases : Each (λ r. Meant (r .says)) table
-all-cases = more C9 (more C10 none)
+pub all-cases : Hold table
+unfolding checked outsideField shareAnswer checkedHeader wrongLength cableOf bigEndian chainFrom checkedRecord recordAt recordOf riseAnswer riseOf sumOf addB dividedB floorZ ceilZ factorAnswer factorFrom currentAnswer currentFrom
+all-cases =
+    -- C1 to C12
+    refl ⨾ refl ⨾ C2 ⨾ C3 ⨾ C4 ⨾ C5 ⨾ C6 ⨾ C7 ⨾ C8 ⨾ C9 ⨾ C10 ⨾ refl ⨾ refl ⨾ refl
+    -- the small examples 1 to 13
+    ⨾ refl ⨾ refl ⨾ refl ⨾ refl ⨾ refl ⨾ refl ⨾ refl ⨾ refl ⨾ refl ⨾ refl ⨾ refl ⨾ refl ⨾ refl
+    -- the orders of the sheet, the share, the cycle and the emergency current
+    ⨾ refl ⨾ refl ⨾ refl ⨾ refl ⨾ refl ⨾ refl ⨾ refl ⨾ refl
+    ⨾ refl ⨾ refl
+    ⨾ refl ⨾ refl
+    ⨾ refl ⨾ refl ⨾ refl ⨾ refl
+    ⨾ all

@@ -1,2 +1,5 @@
 pub mod Shares
+pub mod Rises
+pub mod Factors
+pub mod Currents
 pub mod Claim

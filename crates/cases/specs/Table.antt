@@ -1,12 +1,79 @@
--- Document 01, 'Cases' and 'When the desk is told no': the marked cases in one table. `proofs/Claim` has the sole claim: every row holds.
-use mathlib.Core.List.{List, [], _∷_}
-use Prim.Native.Nat.{ℕ}
+-- Document 01, 'Cases' and 'When the desk is told no', in one table: the marked cases, the small example of each refusal, and for each two neighbours
+-- of an order an input with both faults. `proofs/Claim` has the sole claim: every row holds.
+use mathlib.Core.Path.{_≡_}
+use mathlib.Core.Bool.{Bool, true, false}
+use mathlib.Core.List.{List, [], _∷_, _++_, map}
+use Prim.Native.Nat.{ℕ, _/_, _%_, _≤_}
 use lib.IntN.{pos}
+use lib.ListN.{replicate, set, take}
 use lib.Signed.{_≤ℤ_}
+use Rattle.cable.specs.Checks.{fields}
+use Rattle.cable.specs.Stated.{Stated, statedValues, statedRefusal}
 use Rattle.cable.specs.declared.Cable.{Cable}
+use Rattle.cable.specs.declared.Place.{Place}
+use Rattle.cable.specs.declared.Place.the-variants.{None, Field, Record, Hour, Input}
 use Rattle.share.specs.Pair.{sharePair}
+use Rattle.share.specs.Answer.{shareAnswer, statedShare}
+use Rattle.sheet.specs.Layout.{wrongLength}
+use Rattle.history.specs.Answer.{riseAnswer, statedRise}
+use Rattle.cycle.specs.Answer.{factorAnswer, statedFactor}
+use Rattle.emergency.specs.Answer.{currentAnswer, statedCurrent}
 
--- The eight fields in table order.
+-- ---- what a row says
+
+pub data Question : Type 0 where
+  -- a cable after some minutes
+  share : Cable → ℕ → Question
+  -- the bytes of a sheet
+  rise : List ℕ → Question
+  -- a cable and its hours
+  factor : Cable → List ℕ → Question
+  -- a cable, preload h, limit r and minutes
+  current : Cable → ℕ → ℕ → ℕ → Question
+
+-- in the paper's numbers
+abbrev pub answer : Question → Stated
+answer (share c minutes) = statedShare (shareAnswer c minutes)
+answer (rise sheet) = statedRise (riseAnswer sheet)
+answer (factor c hours) = statedFactor (factorAnswer c hours)
+answer (current c h r minutes) = statedCurrent (currentAnswer c h r minutes)
+
+pub data Says : Type 0 where
+  gives : Question → Stated → Says
+  -- the same for each number from the first to the second
+  each-gives : ℕ → ℕ → (ℕ → Question) → Stated → Says
+  -- the share of a cable after some minutes has a low of at most the one number and a high of at least the other
+  share-around : Cable → ℕ → ℕ → ℕ → Says
+  -- whether so many bytes are refused by the length check
+  length-refused : ℕ → Bool → Says
+
+abbrev pub Meant : Says → Type 0
+Meant (gives question stated) = answer question ≡ stated
+Meant (each-gives first last question stated) = (n : ℕ) → first ≤ n → n ≤ last → answer (question n) ≡ stated
+Meant (share-around c minutes low-most high-least) = (sharePair c minutes .low ≤ℤ pos low-most) × (pos high-least ≤ℤ sharePair c minutes .high)
+Meant (length-refused length refused) = wrongLength length ≡ refused
+
+pub data Name : Type 0 where
+  -- C1 to C12
+  C : ℕ → Name
+  -- a refusal's small example
+  example : ℕ → Name
+  -- both faults in one input, answered by the first
+  before : ℕ → ℕ → Name
+
+pub record Row : Type 0 where
+  pub name : Name
+  pub says : Says
+
+-- every row of a list holds
+infixr 5 _⨾_
+pub data Hold : List Row → Type 0 where
+  all : Hold []
+  _⨾_ : {r : Row} {rs : List Row} → Meant (r .says) → Hold rs → Hold (r ∷ rs)
+
+-- ---- cables
+
+-- the eight fields in table order
 abbrev pub cable : ℕ → ℕ → ℕ → ℕ → ℕ → ℕ → ℕ → ℕ → Cable
 cable d l s k w fast slow rated = record {
   diameter = d;
@@ -19,29 +86,124 @@ cable d l s k w fast slow rated = record {
   rated = rated;
 }
 
+-- cable A, rated as is said
+abbrev pub ratedA : ℕ → Cable
+ratedA rated = cable 500 1000 500 600000 500000 1000 100 rated
+
+abbrev pub cableA : Cable
+cableA = ratedA 400
+
 -- "Cable B: A with k 0 and both rates 100,000."
 abbrev pub cableB : Cable
 cableB = cable 500 1000 500 0 500000 100000 100000 400
 
--- B with both rates 1
+-- "B with both rates 1"
 abbrev pub slowB : Cable
 slowB = cable 500 1000 500 0 500000 1 1 400
 
--- What a row says.
-pub data Says : Type 0 where
-  -- the share of a cable after some minutes has a low of at most the one number and a high of at least the other
-  share-around : Cable → ℕ → ℕ → ℕ → Says
+-- "d = 99"
+abbrev pub thinA : Cable
+thinA = cable 99 1000 500 600000 500000 1000 100 400
 
--- C1 to C12 by their numbers
-pub record Row : Type 0 where
-  pub case : ℕ
-  pub says : Says
+-- "fast 100, slow 101"
+abbrev pub slowerA : Cable
+slowerA = cable 500 1000 500 600000 500000 100 101 400
 
-abbrev pub Meant : Says → Type 0
-Meant (share-around c minutes low-most high-least) = (sharePair c minutes .low ≤ℤ pos low-most) × (pos high-least ≤ℤ sharePair c minutes .high)
+-- both
+abbrev pub thinSlowerA : Cable
+thinSlowerA = cable 99 1000 500 600000 500000 100 101 400
+
+-- ---- sheets
+
+abbrev pub two : ℕ → List ℕ
+two n = n / 256 ∷ n % 256 ∷ []
+
+abbrev pub fours : List ℕ → List ℕ
+fours [] = []
+fours (n ∷ ns) = two (n / 65536) ++ (two (n % 65536) ++ fours ns)
+
+abbrev pub twos : List ℕ → List ℕ
+twos [] = []
+twos (n ∷ ns) = two n ++ twos ns
+
+-- a cable; starting current, first link, and for each record minutes, amperes and next link
+abbrev pub sheet : Cable → List ℕ → List ℕ
+sheet c rest = fours (fields c) ++ twos rest
+
+-- C1's 36 bytes as they are printed
+abbrev pub printed : List ℕ
+printed = 0 ∷ 0 ∷ 1 ∷ 244 ∷ 0 ∷ 0 ∷ 3 ∷ 232 ∷ 0 ∷ 0 ∷ 1 ∷ 244 ∷ 0 ∷ 9 ∷ 39 ∷ 192 ∷ 0 ∷ 7 ∷ 161 ∷ 32 ∷ 0 ∷ 0 ∷ 3 ∷ 232 ∷ 0 ∷ 0 ∷ 0 ∷ 100 ∷ 0 ∷ 0 ∷ 1 ∷ 144 ∷ 1 ∷ 44 ∷ 0 ∷ 0 ∷ []
+
+-- ---- the table
+
+-- one hour of the day, the rest 0
+abbrev pub oneHour : ℕ → ℕ → List ℕ
+oneHour hour amperes = set (replicate 24 0) hour amperes
+
+abbrev pub values : List ℕ → Stated
+values ns = statedValues (map pos ns)
+
+abbrev pub refusal : ℕ → Place → Stated
+refusal number place = statedRefusal (record { number = number; place = place })
+
+abbrev pub row : Name → Says → Row
+row name says = record { name = name; says = says }
+
+abbrev pub any-minutes : (ℕ → Question) → Stated → Says
+any-minutes = each-gives 1 2880
+
+abbrev pub any-hour : (ℕ → Question) → Stated → Says
+any-hour = each-gives 0 23
 
 abbrev pub table : List Row
 table =
-    record { case = 9; says = share-around cableB 1 997521 997522 }
-    ∷ record { case = 10; says = share-around slowB 1 59 60 }
+    row (C 1) (gives (rise printed) (values (562500 ∷ 562500 ∷ [])))
+    ∷ row (C 1) (gives (rise (sheet cableA (300 ∷ 0 ∷ []))) (values (562500 ∷ 562500 ∷ [])))
+    ∷ row (C 2) (gives (rise (sheet cableA (300 ∷ 1 ∷ 60 ∷ 300 ∷ 2 ∷ 30 ∷ 300 ∷ 0 ∷ []))) (values (562500 ∷ 562500 ∷ [])))
+    ∷ row (C 3) (gives (factor cableA (replicate 24 200)) (values (1000 ∷ [])))
+    ∷ row (C 4) (any-hour (λ hour. factor cableB (oneHour hour 400)) (values (999 ∷ [])))
+    ∷ row (C 5) (any-minutes (current cableA 100 100) (values (400 ∷ [])))
+    ∷ row (C 6) (any-minutes (current cableA 50 25) (values (200 ∷ [])))
+    ∷ row (C 7) (any-minutes (current cableA 51 25) (refusal 13 None))
+    ∷ row (C 8) (any-minutes (current (ratedA 401) 50 25) (values (200 ∷ [])))
+    ∷ row (C 9) (share-around cableB 1 997521 997522)
+    ∷ row (C 10) (share-around slowB 1 59 60)
+    ∷ row (C 11) (gives (rise (sheet cableA (300 ∷ 1 ∷ 30 ∷ 300 ∷ 1 ∷ []))) (refusal 8 (Record 1)))
+    ∷ row (C 12) (length-refused 324 false)
+    ∷ row (C 12) (length-refused 330 true)
+    -- "small example"
+    ∷ row (example 1) (gives (rise (take 35 printed)) (refusal 1 None))
+    ∷ row (example 2) (gives (share thinA 60) (refusal 2 (Field 1)))
+    ∷ row (example 3) (gives (share slowerA 60) (refusal 3 None))
+    ∷ row (example 4) (gives (rise (sheet cableA (4001 ∷ 0 ∷ []))) (refusal 4 None))
+    ∷ row (example 5) (gives (rise (sheet cableA (300 ∷ 1 ∷ []))) (refusal 5 (Record 0)))
+    ∷ row (example 6) (gives (rise (sheet cableA (300 ∷ 1 ∷ 0 ∷ 300 ∷ 0 ∷ []))) (refusal 6 (Record 1)))
+    ∷ row (example 7) (gives (rise (sheet cableA (300 ∷ 1 ∷ 30 ∷ 4001 ∷ 0 ∷ []))) (refusal 7 (Record 1)))
+    ∷ row (example 8) (gives (rise (sheet cableA (300 ∷ 1 ∷ 30 ∷ 300 ∷ 2 ∷ 30 ∷ 300 ∷ 0 ∷ []))) (refusal 8 (Record 2)))
+    ∷ row (example 9) (gives (share cableA 2881) (refusal 9 None))
+    ∷ row (example 10) (gives (factor cableA (oneHour 5 4001)) (refusal 10 (Hour 5)))
+    ∷ row (example 11) (gives (factor cableA (replicate 24 0)) (refusal 11 None))
+    ∷ row (example 12) (gives (current cableA 201 100 60) (refusal 12 (Input 1)))
+    ∷ row (example 13) (gives (current cableA 51 25 60) (refusal 13 None))
+    -- Order. Sheet: 1, 2, 3, 4, then for each record in turn 5, 6, 7, 8. A link above n leads to no record, so 5 and 6 are never both to be said of one.
+    ∷ row (before 1 2) (gives (rise (take 35 (sheet thinA (300 ∷ 0 ∷ [])))) (refusal 1 None))
+    ∷ row (before 2 3) (gives (rise (sheet thinSlowerA (300 ∷ 0 ∷ []))) (refusal 2 (Field 1)))
+    ∷ row (before 3 4) (gives (rise (sheet slowerA (4001 ∷ 0 ∷ []))) (refusal 3 None))
+    ∷ row (before 4 5) (gives (rise (sheet cableA (4001 ∷ 1 ∷ []))) (refusal 4 None))
+    ∷ row (before 6 7) (gives (rise (sheet cableA (300 ∷ 1 ∷ 0 ∷ 4001 ∷ 0 ∷ []))) (refusal 6 (Record 1)))
+    ∷ row (before 7 8) (gives (rise (sheet cableA (300 ∷ 1 ∷ 30 ∷ 300 ∷ 2 ∷ 30 ∷ 4001 ∷ 0 ∷ []))) (refusal 7 (Record 2)))
+    -- one record in turn before the link to the next
+    ∷ row (before 6 5) (gives (rise (sheet cableA (300 ∷ 1 ∷ 0 ∷ 300 ∷ 2 ∷ []))) (refusal 6 (Record 1)))
+    ∷ row (before 8 5) (gives (rise (sheet cableA (300 ∷ 1 ∷ 30 ∷ 300 ∷ 2 ∷ 30 ∷ 300 ∷ 3 ∷ []))) (refusal 8 (Record 2)))
+    -- Share: 2, 3, 9
+    ∷ row (before 2 3) (gives (share thinSlowerA 60) (refusal 2 (Field 1)))
+    ∷ row (before 3 9) (gives (share slowerA 2881) (refusal 3 None))
+    -- Cycle: 2, 3, 10, 11. Hours with one above 4,000 A are not all 0, so 10 and 11 never meet.
+    ∷ row (before 2 3) (gives (factor thinSlowerA (replicate 24 200)) (refusal 2 (Field 1)))
+    ∷ row (before 3 10) (gives (factor slowerA (oneHour 5 4001)) (refusal 3 None))
+    -- Emergency: 2, 3, 9, 12, 13
+    ∷ row (before 2 3) (gives (current thinSlowerA 100 100 60) (refusal 2 (Field 1)))
+    ∷ row (before 3 9) (gives (current slowerA 100 100 2881) (refusal 3 None))
+    ∷ row (before 9 12) (gives (current cableA 201 100 2881) (refusal 9 None))
+    ∷ row (before 12 13) (gives (current cableA 201 25 60) (refusal 12 (Input 1)))
     ∷ []

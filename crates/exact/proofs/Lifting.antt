@@ -129,7 +129,7 @@ less-twice c x y = record {
 uncut : (b : Frac) → b ∸ 0F ≈ b
 uncut b = record { to = less-least b 0F b (q-le (b ∷ []) (qv 0) (qn 0 +' qv 0) tt); from = q-from (b ∷ (b ∸ 0F) ∷ []) (le (qn 1) (qv 0) (qn 0 +' qv 1) ∷ []) (qv 0) (qv 1) tt (less-on b 0F) }
 
-above-test : (b : Frac) → 0 < b .num → T (above? (ofFrac b))
+pub above-test : (b : Frac) → 0 < b .num → T (above? (ofFrac b))
 above-test b z = le→leb 1 ((b ∸ 0F) .num) (above z (uncut b .from))
 
 test-above : (b : Frac) → T (above? (ofFrac b)) → T (leb 1 (b .num))

@@ -4,7 +4,8 @@ use Prim.Native.Nat.{ℕ, zero, suc, _≤_, _<_}
 use mathlib.Core.Bool.{Bool, true, false}
 use lib.Dec.{T, leb}
 use Rattle.numbers.specs.Fraction.{Frac, whole, 1F, _÷_, _∸_}
-use Rattle.numbers.specs.Signed.{Signed, _≼ₛ_, ofFrac, amount, negS, addS, least4, most4}
+use lib.IntN.{ℤ}
+use Rattle.numbers.specs.Signed.{Signed, _≼ₛ_, ofFrac, ofInt, amount, negS, addS, least4, most4}
 use Rattle.exact.specs.Exponential.{expLow, expHigh}
 use Rattle.exact.specs.Cutting.{integralHigh, integralLow, lnHigh, lnLow}
 
@@ -43,6 +44,10 @@ and false b = false
 -- a fraction that is known
 abbrev pub number : Frac → Value
 number a = record { ok = λ n. true; low = λ n. ofFrac a; high = λ n. ofFrac a }
+
+-- an integer
+abbrev pub integer : ℤ → Value
+integer z = record { ok = λ n. true; low = λ n. ofInt z; high = λ n. ofInt z }
 
 -- e^(−x)
 abbrev pub expNeg : Frac → Value

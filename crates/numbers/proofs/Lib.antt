@@ -9,3 +9,5 @@ pub mod SignedFractions
 pub mod Integers
 pub mod Rounding
 pub mod Machine
+pub mod SignedIntegers
+pub mod Largest

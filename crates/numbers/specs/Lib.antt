@@ -2,3 +2,4 @@ pub mod Fraction
 pub mod Signed
 pub mod Integer
 pub mod Rounding
+pub mod Largest

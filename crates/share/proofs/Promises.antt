@@ -7,15 +7,21 @@ use native.Mathlib.Omega.{arith}
 use lib.IntN.{pos, _+ℤ_}
 use lib.Signed.{_≤ℤ_}
 use Rattle.numbers.proofs.Integers.{lin-le, add-lin}
-use Rattle.exact.specs.Value.{inMillionths}
+use Rattle.numbers.specs.Fraction.{whole}
+use Rattle.numbers.specs.Signed.{ofFrac}
+use Rattle.numbers.proofs.SignedFractions.{refl≼ₛ}
+use Rattle.exact.specs.Value.{_⊴_, inMillionths}
+use Rattle.exact.proofs.Values.{constant⊴, mul⊴}
 use Rattle.exact.specs.Share.{CableNumbers, Accepted, share, seconds}
 use Rattle.exact.proofs.Share.{share-risesP}
-use Rattle.exact.proofs.SignedShare.{share-plain}
+use Rattle.exact.proofs.SignedShare.{share-plain, share-rises}
 use Rattle.exact.proofs.Pairs.{millionths-most, millionths-least}
 use Rattle.bounds.specs.Pair.{Pair, asBounds}
 use Rattle.bounds.specs.declared.Bounds.{Bounds}
 use Rattle.cable.specs.Checks.{outside, _to_, checked, inUse, defaultDiffusivity}
+use Rattle.cable.specs.Stated.{statedCheck}
 use Rattle.cable.specs.InRange.{numbersOf}
+use Rattle.cable.proofs.Acceptance.{passed-within, accepted-in-range}
 use Rattle.cable.specs.declared.Cable.{Cable}
 use Rattle.cable.specs.declared.CableCheck.{CableCheck}
 use Rattle.cable.specs.declared.CableCheck.the-variants as C
@@ -26,7 +32,8 @@ use Rattle.model.proofs.Cable.{share-at-most-million}
 use Rattle.model.proofs.Enclosure.Share.{share-held, share-enclosed}
 use Rattle.share.specs.Pair.{pairInUse, sharePair, share-pair-is, pair-in-use-is}
 use Rattle.share.specs.Promises.{shareWidth, exactShare, Millionths, Promised}
-use Rattle.share.specs.Answer.{mostMinutes, refused9, shareAnswer, afterChecks}
+use Rattle.share.specs.Answer.{mostMinutes, refused9, shareAnswer, afterChecks, ShareSaid}
+use Rattle.share.specs.declared.ShareAnswer.{ShareAnswer}
 use Rattle.share.specs.declared.ShareAnswer.the-variants as S
 
 -- ---- the range, whatever the cable and the minutes are
@@ -70,6 +77,30 @@ answered (C.Refused f) o q e = let z : _≡_ {A = ℕ} 0 1 = cc in absurd (omega
 pub answered-pair : (cable : Cable) (minutes : ℕ) {p : Bounds} → shareAnswer cable minutes ≡ S.Pair p → p ≡ sharePair cable minutes
 unfolding shareAnswer
 answered-pair cable minutes e = answered (checked cable) (outside (1 to mostMinutes) minutes) (sharePair cable minutes) e
+
+-- .. which are then accepted
+accepted-then : (a : CableCheck) (o : Bool) (q : Bounds) {p : Bounds} → afterChecks a (cond o (S.Refused refused9) (S.Pair q)) ≡ S.Pair p → (statedCheck a .number ≡ 0) × (o ≡ false)
+accepted-then (C.Accepted c) true q e = let z : _≡_ {A = ℕ} 0 1 = cc in absurd (omega arith)
+accepted-then (C.Accepted c) false q e = (refl, refl)
+accepted-then (C.Refused f) o q e = let z : _≡_ {A = ℕ} 0 1 = cc in absurd (omega arith)
+
+pub answered-accepted : (cable : Cable) (minutes : ℕ) {p : Bounds} → shareAnswer cable minutes ≡ S.Pair p → Accepted (numbersOf (inUse defaultDiffusivity cable)) minutes
+unfolding shareAnswer
+answered-accepted cable minutes e =
+    let both = accepted-then (checked cable) (outside (1 to mostMinutes) minutes) (sharePair cable minutes) e in
+    let within = passed-within 1 mostMinutes minutes (both .1) in
+    record { cable = accepted-in-range cable (both .0) .numbers; minutes-from = within .0; minutes-to = within .1 }
+
+-- what the contract of `share` says follows from its answer
+pub said : {cable : Cable} {minutes : ℕ} {r : ShareAnswer} → r ≡ shareAnswer cable minutes → ShareSaid cable minutes r
+said {cable} {minutes} {r} e = record {
+  answer = e;
+  distance = λ b f. rw (answered-pair cable minutes (sym e ∙ f)) (share-promised cable minutes (answered-accepted cable minutes (sym e ∙ f)));
+}
+
+-- no lower fraction of the exact share exceeds an upper one
+pub exact-share-sound : (cable : Cable) (minutes : ℕ) → Accepted (numbersOf (inUse defaultDiffusivity cable)) minutes → exactShare cable minutes ⊴ exactShare cable minutes
+exact-share-sound cable minutes a = mul⊴ (constant⊴ (refl≼ₛ (ofFrac (whole 1000000)))) (share-rises (numbersOf (inUse defaultDiffusivity cable)) minutes minutes a a (le-refl minutes))
 
 -- ---- the pair depends on fields 1 to 7 of the cable in use alone: not on the rated current, and 0 and the default in field 3 give the same
 abbrev withRated : Cable → ℕ → Cable

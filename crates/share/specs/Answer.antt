@@ -10,7 +10,9 @@ use Rattle.cable.specs.declared.Refusal.{Refusal}
 use Rattle.cable.specs.declared.Place.the-variants.{None}
 use Rattle.cable.specs.declared.CableCheck.{CableCheck}
 use Rattle.cable.specs.declared.CableCheck.the-variants as C
+use Rattle.bounds.specs.declared.Bounds.{Bounds}
 use Rattle.share.specs.Pair.{sharePair}
+use Rattle.share.specs.Promises.{shareWidth, exactShare, Promised}
 use Rattle.share.specs.declared.ShareAnswer.{ShareAnswer}
 use Rattle.share.specs.declared.ShareAnswer.the-variants.{Pair, Refused}
 
@@ -43,3 +45,5 @@ statedShare (Refused f) = statedRefusal f
 
 pub record ShareSaid (cable : Cable) (minutes : ℕ) (r : ShareAnswer) : Type 0 where
   pub answer : r ≡ shareAnswer cable minutes
+  -- 'What the distances say', of every pair that is reported
+  pub distance : (b : Bounds) → r ≡ Pair b → Promised shareWidth (exactShare cable minutes) b

@@ -1,3 +1,4 @@
 pub mod Pair
-pub mod Answer
 pub mod Promises
+pub mod Answer
+pub mod Examples

@@ -4,6 +4,7 @@ use mathlib.Core.Path.{_≡_, sym, _∙_}
 use Rattle.cable.specs.Checks.{checked}
 use Rattle.cable.specs.declared.CableCheck.the-variants as C
 use Rattle.share.proofs.Answers.{cable-refused, minutes-refused, used-accepted, pair-given}
+use Rattle.share.proofs.Promises.{said}
 use Rattle.share.proofs.share.Statement.{statement}
 use Rattle.share.proofs.share.Tie as tie
 
@@ -20,7 +21,7 @@ refusal-of-requires : tie.Need-refusal-of-requires
 refusal-of-requires c κs = rw (c .enum-told .given .1) tt
 
 returns : tie.Need-returns
-returns c = record { answer = cable-refused _ _ (sym (c .before .before .before .check-cable .ensures .answer) ∙ c .refusal-of .ensures) }
+returns c = said (cable-refused _ _ (sym (c .before .before .before .check-cable .ensures .answer) ∙ c .refusal-of .ensures))
 
 -- the check passed
 accepted : (k : tie.After-known-told) → checked (k .before .before .before .before .args .cable) ≡ C.Accepted (k .before .checked .given .0 .0)
@@ -30,7 +31,7 @@ outside-requires : tie.Need-outside-requires
 outside-requires c κs = search needs
 
 returns-2 : tie.Need-returns-2
-returns-2 c = record { answer = minutes-refused _ _ (accepted (c .before .before)) (sym (c .before .outside .ensures) ∙ c .if1 .taken) }
+returns-2 c = said (minutes-refused _ _ (accepted (c .before .before)) (sym (c .before .outside .ensures) ∙ c .if1 .taken))
 
 in-use-requires : tie.Need-in-use-requires
 in-use-requires c κs = search needs
@@ -41,7 +42,7 @@ pair-of-requires c κs = used-accepted _ _ (accepted (c .before .before .before)
 returns-3 : tie.Need-returns-3
 returns-3 c =
     let k = c .before in
-    record { answer = pair-given _ _ (accepted (k .before .before .before)) (k .in-use .ensures .answer) (sym (k .before .before .outside .ensures) ∙ k .before .if1 .left) (c .pair-of .ensures) }
+    said (pair-given _ _ (accepted (k .before .before .before)) (k .in-use .ensures .answer) (sym (k .before .before .outside .ensures) ∙ k .before .if1 .left) (c .pair-of .ensures))
 
 pub share-spec : {M : Type 1} → statement M
 share-spec =

@@ -1,0 +1,70 @@
+-- C5, C6, C7 and C8, for every minute count: with h² = 100·r nothing is left up to the limit, and whatever the share above 0 is, i is certified exactly
+-- where 10,000·i² is at most 100·r·rated².
+use mathlib.Core.Path.{_≡_, refl, sym, _∙_}
+use mathlib.Core.List.{[], _∷_}
+use Prim.Native.Nat.{ℕ, suc, _*_, _≤_, _<_}
+use native.Mathlib.Nat.{mul-le-mul-right}
+use native.Mathlib.Omega.{arith}
+use borrow.Author.Tests.{le-ltb, le-leb, lt-leb}
+use lib.IntN.{ℤ, pos, negsuc}
+use lib.Signed.{_≤ℤ_}
+use Rattle.numbers.proofs.Integers.{le-lin, lin-le}
+use Rattle.numbers.proofs.Largest.{found-largest}
+use Rattle.exact.specs.Share.{Accepted}
+use Rattle.cable.specs.Checks.{outsideField, checked, inUse, defaultDiffusivity}
+use Rattle.cable.specs.InRange.{numbersOf}
+use Rattle.cable.specs.declared.Place.the-variants.{None}
+use Rattle.cable.specs.declared.CableCheck.the-variants as C
+use Rattle.share.specs.Pair.{sharePair}
+use Rattle.share.specs.Answer.{shareAnswer}
+use Rattle.share.specs.declared.ShareAnswer.the-variants as S
+use Rattle.share.proofs.Promises.{share-promised}
+use Rattle.emergency.specs.Certifying.{mostCurrent, largestCertified}
+use Rattle.emergency.specs.Answer.{currentFrom, currentAnswer}
+use Rattle.emergency.proofs.Certifying.{movedLeft, movedRight, certified-moved, certified-falls}
+use Rattle.cases.specs.Table.{Meant, any-minutes, current, values, refusal, cableA, ratedA}
+use Rattle.cases.proofs.Shares.{high-above-zero}
+
+-- ---- nothing left up to the limit
+
+module _ (rated h r i : ℕ) (limit : h * h ≡ 100 * r) (below : i < mostCurrent) (keeps : 10000 * (i * i) ≤ 100 * r * (rated * rated)) (breaks : 100 * r * (rated * rated) < 10000 * (suc i * suc i)) where
+  at-limit : (g : ℤ) → pos 1 ≤ℤ g → largestCertified rated h r g ≡ i
+  at-limit (pos g) some =
+      sym (found-largest (certified-falls rated h r (pos g) (lin-le (pos 0) (pos g) (omega arith))) (omega arith)
+      (sym (certified-moved rated h r g i) ∙ le-leb (movedLeft rated h g i) (movedRight rated h r g) (rw limit (omega (arith, mul-le-mul-right g keeps))))
+      (λ l. sym (certified-moved rated h r g (suc i)) ∙ lt-leb (movedLeft rated h g (suc i)) (movedRight rated h r g) (rw limit (omega (arith, le-lin some, mul-le-mul-right g breaks)))))
+  at-limit (negsuc g) some = absurd (omega (arith, le-lin some))
+
+-- ---- every minute count is answered from its share
+
+module _ (rated : ℕ) (passes : checked (ratedA rated) ≡ C.Accepted (ratedA rated)) (minutes : ℕ) (from : 1 ≤ minutes) (to : minutes ≤ 2880) where
+  accepted : Accepted (numbersOf (inUse defaultDiffusivity (ratedA rated))) minutes
+  unfolding inUse
+  accepted = omega arith
+
+  high-some : pos 1 ≤ℤ sharePair (ratedA rated) minutes .high
+  high-some = high-above-zero _ minutes accepted _ (share-promised (ratedA rated) minutes accepted)
+
+  share-given : shareAnswer (ratedA rated) minutes ≡ S.Pair (sharePair (ratedA rated) minutes)
+  unfolding shareAnswer
+  share-given = rw (shareAnswer, passes, le-ltb minutes 1, le-ltb 2880 minutes)
+
+  current-given : (h r : ℕ) → currentAnswer (ratedA rated) h r minutes ≡ currentFrom rated h r (sharePair (ratedA rated) minutes)
+  unfolding currentAnswer
+  current-given h r = rw (currentAnswer, share-given)
+
+pub C5 : Meant (any-minutes (current cableA 100 100) (values (400 ∷ [])))
+unfolding checked outsideField currentFrom
+C5 minutes from to = rw (current-given 400 refl minutes from to 100 100, at-limit 400 100 100 400 refl (omega arith) (omega arith) (omega arith) (sharePair cableA minutes .high) (high-some 400 refl minutes from to))
+
+pub C6 : Meant (any-minutes (current cableA 50 25) (values (200 ∷ [])))
+unfolding checked outsideField currentFrom
+C6 minutes from to = rw (current-given 400 refl minutes from to 50 25, at-limit 400 50 25 200 refl (omega arith) (omega arith) (omega arith) (sharePair cableA minutes .high) (high-some 400 refl minutes from to))
+
+pub C7 : Meant (any-minutes (current cableA 51 25) (refusal 13 None))
+unfolding checked outsideField currentFrom
+C7 minutes from to = rw (current-given 400 refl minutes from to 51 25)
+
+pub C8 : Meant (any-minutes (current (ratedA 401) 50 25) (values (200 ∷ [])))
+unfolding checked outsideField currentFrom
+C8 minutes from to = rw (current-given 401 refl minutes from to 50 25, at-limit 401 50 25 200 refl (omega arith) (omega arith) (omega arith) (sharePair (ratedA 401) minutes .high) (high-some 401 refl minutes from to))

@@ -1,0 +1,126 @@
+-- How far the factor may be from the exact factor: document 01, 'What the distances say'. For every width of the shares' pairs, every exact shares that
+-- lie between them, every reference hour.
+use mathlib.Core.Path.{_≡_, refl}
+use mathlib.Core.Bool.{true, false}
+use mathlib.Core.List.{List}
+use Prim.Native.Nat.{ℕ, zero, suc, _+_, _*_, _≤_, _<_}
+use native.Mathlib.Nat.{le-refl, mul-le-mul, mul-le-mul-left, mul-le-mul-right}
+use native.Mathlib.Omega.{arith}
+use borrow.Author.Tests.{leb-false}
+use lib.Dec.{T}
+use lib.IntN.{ℤ, pos, negsuc, _*ℤ_, *ℤ-comm}
+use lib.Signed.{_≤ℤ_}
+use Rattle.numbers.specs.Fraction.{whole}
+use Rattle.numbers.specs.Signed.{ofInt, ofFrac}
+use Rattle.numbers.specs.Largest.{Largest}
+use Rattle.numbers.proofs.Integers.{lin-le}
+use Rattle.numbers.proofs.Largest.{is-largest}
+use Rattle.numbers.proofs.SignedFractions.{refl≼ₛ}
+use Rattle.bounds.specs.declared.Bounds.{Bounds}
+use Rattle.exact.specs.Value.{Value, AtMost, AtLeast, _⊴_, integer, _+ᵥ_}
+use Rattle.exact.proofs.Plain.{both}
+use Rattle.exact.proofs.Values.{constant⊴, add⊴, mul⊴, quot⊴}
+use Rattle.distance.specs.Around.{Around}
+use Rattle.distance.proofs.Around.{around-integer, around-add, around-times, around-divided}
+use Rattle.distance.proofs.Spread.{Spread, spread-point, spread-more, spread-add, spread-times, spread-quotient, quotient-bounds, most-below, most-add, most-times, least-above, least-times}
+use Rattle.distance.proofs.Enclosed.{Enclosed, enclosed-around, enclosed-spread}
+use Rattle.share.specs.Promises.{shareWidth}
+use Rattle.cycle.specs.Heating.{heatingHours, commonDivisor, relativeLoad, gatheredLoad, gatheredBounds, heatingBounds, heatingSum}
+use Rattle.cycle.specs.Factor.{mostFactor, mostHeating, allowed, largestFactor}
+use Rattle.cycle.specs.Exact.{exactGathered, exactHeating, sumWidth, FactorDistance}
+use Rattle.cycle.proofs.Heating.{load-sized}
+use Rattle.cycle.proofs.FactorTest.{nothing-allowed, never-below}
+
+-- ---- the sum
+
+module _ (width : ℕ) (shares : ℕ → Value) (pairs : ℕ → Bounds) (each : (i : ℕ) → i < heatingHours → Enclosed width (shares (suc i)) (pairs (suc i))) (hours : List ℕ) (hour : ℕ) where
+  record SumHeld (n : ℕ) : Type 0 where
+    sound : exactGathered shares hours hour n ⊴ exactGathered shares hours hour n
+    around : Around (gatheredBounds hours hour pairs n) (exactGathered shares hours hour n)
+    spread : Spread (n * width * commonDivisor hours) (gatheredBounds hours hour pairs n)
+
+  -- what multiplies each share is at most the common divisor in size
+  sum-held : (n : ℕ) → n ≤ heatingHours → SumHeld n
+  unfolding gatheredBounds exactGathered
+  sum-held zero h =
+      let z = pos (relativeLoad hours hour heatingHours * 1000000) in
+      record { sound = constant⊴ (refl≼ₛ (ofInt z)); around = around-integer z; spread = spread-more (omega arith) (spread-point z) }
+  sum-held (suc n) h =
+      let z = gatheredLoad hours hour n in
+      let e = each n (omega arith) in
+      let before = sum-held n (omega arith) in
+      record {
+        sound = add⊴ (before .sound) (mul⊴ (constant⊴ (refl≼ₛ (ofInt z))) (e .sound));
+        around = around-add (before .around) (around-times z (e .sound) (enclosed-around e));
+        spread =
+            spread-more (omega (arith, mul-le-mul-right width (load-sized hours hour n .low)))
+            (spread-add (before .spread) (spread-times z (e .promised .ordered) (enclosed-spread e)));
+      }
+
+  module _ (zd : 0 < commonDivisor hours) where
+    pub heating-sound : exactHeating shares hours hour ⊴ exactHeating shares hours hour
+    unfolding exactHeating
+    heating-sound = quot⊴ (sum-held heatingHours (le-refl heatingHours) .sound) (constant⊴ (refl≼ₛ (ofFrac (whole (commonDivisor hours)))))
+
+    heating-around : Around (heatingBounds pairs hours hour) (exactHeating shares hours hour)
+    unfolding heatingBounds exactHeating
+    heating-around =
+        let held = sum-held heatingHours (le-refl heatingHours) in
+        around-divided (commonDivisor hours) zd (held .sound) (held .around)
+
+    heating-spread : Spread (sumWidth width) (heatingBounds pairs hours hour)
+    unfolding heatingBounds
+    heating-spread = spread-quotient zd (heatingHours * width) (sum-held heatingHours (le-refl heatingHours) .spread)
+
+    -- the rounded sum is at least T, and at most T + 6·width + 1
+    pub sum-at-least : AtLeast (ofInt (heatingSum pairs hours hour)) (exactHeating shares hours hour)
+    sum-at-least = heating-around .high-at-least
+
+    pub sum-at-most : AtMost (ofInt (heatingSum pairs hours hour)) (exactHeating shares hours hour +ᵥ integer (pos (sumWidth width)))
+    sum-at-most = most-below (heating-spread .narrow) (most-add (heatingBounds pairs hours hour .low) (pos (sumWidth width)) (heating-around .low-at-most))
+
+-- every order that gives bounds of the six shares gives bounds of the sum
+module _ (shares : ℕ → Value) (o : ℕ) (each : (i : ℕ) → i < heatingHours → T (shares (suc i) .ok o)) (hours : List ℕ) (hour : ℕ) where
+  gathered-bounds : (n : ℕ) → n ≤ heatingHours → T (exactGathered shares hours hour n .ok o)
+  unfolding exactGathered
+  gathered-bounds zero h = tt
+  gathered-bounds (suc n) h = both (exactGathered shares hours hour n .ok o) (shares (suc n) .ok o) (gathered-bounds n (omega arith)) (each n (omega arith))
+
+  pub heating-bounds : 0 < commonDivisor hours → T (exactHeating shares hours hour .ok o)
+  unfolding exactHeating
+  heating-bounds zd = quotient-bounds (commonDivisor hours) zd (exactGathered shares hours hour heatingHours) o (gathered-bounds heatingHours (le-refl heatingHours))
+
+-- ---- the factor
+
+within-heating : (sum : ℤ) (m : ℕ) → allowed sum m ≡ true → (pos (m * m) *ℤ sum) ≤ℤ pos mostHeating
+unfolding allowed
+within-heating sum m e = rw (*ℤ-comm (pos (m * m)) sum) (record { le = rw e tt })
+
+-- from a factor that is not allowed on, the squares times the sum are above 10^12
+past-heating : (sum : ℤ) (m k : ℕ) → allowed sum m ≡ false → m ≤ k → pos (mostHeating + 1) ≤ℤ (pos (k * k) *ℤ sum)
+unfolding allowed
+past-heating (pos s) m k e h =
+    lin-le (pos (mostHeating + 1)) (pos (k * k * s)) (omega (arith, leb-false (s * (m * m)) mostHeating e, mul-le-mul-left s (mul-le-mul h h)))
+past-heating (negsuc s) m k e h = absurd (never-below s m e)
+
+module _ (width : ℕ) (heating : Value) (sound : heating ⊴ heating) (sum : ℤ) where
+  factor-near : AtLeast (ofInt sum) heating → AtMost (ofInt sum) (heating +ᵥ integer (pos (sumWidth width))) → FactorDistance width heating (largestFactor sum)
+  factor-near l u =
+      let m = largestFactor sum in
+      let is : Largest (allowed sum) mostFactor m = is-largest (allowed sum) (nothing-allowed sum) mostFactor in
+      record {
+        not-above = least-above (within-heating sum m (is .passes)) (least-times (m * m) sum sound l);
+        larger-above =
+            λ h k p.
+            most-below (past-heating sum (suc m) k (is .none-above (suc m) (omega arith) (omega arith)) (omega arith))
+            (most-times (k * k) sum (add⊴ sound (constant⊴ (refl≼ₛ (ofInt (pos (sumWidth width)))))) u);
+      }
+
+pub factor-distance : (width : ℕ) (shares : ℕ → Value) (pairs : ℕ → Bounds) → ((i : ℕ) → i < heatingHours → Enclosed width (shares (suc i)) (pairs (suc i))) → (hours : List ℕ) (hour : ℕ) → 0 < commonDivisor hours
+    → FactorDistance width (exactHeating shares hours hour) (largestFactor (heatingSum pairs hours hour))
+factor-distance width shares pairs each hours hour zd =
+    factor-near width (exactHeating shares hours hour) (heating-sound width shares pairs each hours hour zd) (heatingSum pairs hours hour) (sum-at-least width shares pairs each hours hour zd) (sum-at-most width shares pairs each hours hour zd)
+
+-- "T + 301"
+pub sum-width-is : sumWidth shareWidth ≡ 301
+sum-width-is = refl

@@ -1,0 +1,6 @@
+pub mod Day
+pub mod Heating
+pub mod FactorTest
+pub mod Answers
+pub mod Distance
+pub mod Said

@@ -1,0 +1,56 @@
+-- The hour's square, or the sum of all, by the definition's test. Assumes nothing.
+use mathlib.Core.Path.{ap, _∙_}
+use Prim.Native.Nat.{ℕ, _*_}
+use native.Mathlib.Omega.{arith}
+use borrow.Author.Tests.{lt-ltb, le-ltb}
+use Rattle.cycle.specs.Heating.{heatingHours, relativeLoad}
+use borrow.Author.Needs.{needs}
+use Rattle.cycle.proofs.relative_load.Statement.{statement}
+use Rattle.cycle.proofs.relative_load.Tie as tie
+
+add-at : tie.Need-add-at
+add-at c = search needs
+
+sub-at : tie.Need-sub-at
+sub-at c = search needs
+
+mul-square : tie.Need-mul-square
+mul-square c = search needs
+
+array-read-square : tie.Need-array-read-square
+array-read-square c = search needs
+
+square-requires : tie.Need-square-requires
+square-requires c κs = search needs
+
+mul-result : tie.Need-mul-result
+mul-result c = search needs
+
+squared-loads-requires : tie.Need-squared-loads-requires
+squared-loads-requires c κs = search needs
+
+returns : tie.Need-returns
+unfolding relativeLoad
+returns c =
+    let s = c .before .before .args in
+    (ap (λ (n : ℕ). 24 * n) (c .square .ensures .0) ∙ rw (relativeLoad, lt-ltb (s .i) heatingHours (c .before .if1 .taken)), omega arith)
+
+returns-2 : tie.Need-returns-2
+unfolding relativeLoad
+returns-2 c =
+    let s = c .before .before .args in
+    (c .squared-loads .ensures .0 ∙ rw (relativeLoad, le-ltb (s .i) heatingHours (c .before .if1 .left)), c .squared-loads .ensures .1)
+
+pub relative-load-spec : {M : Type 1} → statement M
+relative-load-spec =
+    tie.close
+    (tie.spec
+    add-at
+    sub-at
+    mul-square
+    array-read-square
+    square-requires
+    mul-result
+    squared-loads-requires
+    returns
+    returns-2)

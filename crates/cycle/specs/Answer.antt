@@ -1,0 +1,76 @@
+-- Document 01, 'The daily cycle' and 'When the desk is told no': the answer of a cyclic factor, in the order 2, 3, 10, 11.
+use mathlib.Core.Path.{_≡_}
+use mathlib.Core.Bool.{Bool, true, cond, _&&_}
+use mathlib.Core.List.{List, [], _∷_}
+use Prim.Native.Nat.{ℕ, suc, _*_}
+use lib.Dec.{ltb, eqb}
+use lib.IntN.{pos}
+use Rattle.bounds.specs.declared.Bounds.{Bounds}
+use Rattle.cable.specs.Checks.{checked}
+use Rattle.cable.specs.Stated.{Stated, statedValues, statedRefusal}
+use Rattle.cable.specs.declared.Cable.{Cable}
+use Rattle.cable.specs.declared.Refusal.{Refusal}
+use Rattle.cable.specs.declared.Place.the-variants.{None, Hour}
+use Rattle.cable.specs.declared.CableCheck.{CableCheck}
+use Rattle.cable.specs.declared.CableCheck.the-variants as C
+use Rattle.exact.specs.Value.{Value}
+use Rattle.share.specs.Pair.{sharePair}
+use Rattle.share.specs.Promises.{shareWidth, exactShare}
+use Rattle.cycle.specs.Day.{dayHours, referenceHour}
+use Rattle.cycle.specs.Heating.{heatingSum}
+use Rattle.cycle.specs.Factor.{largestFactor}
+use Rattle.cycle.specs.Exact.{exactHeating, FactorDistance}
+use Rattle.cycle.specs.declared.FactorAnswer.{FactorAnswer}
+use Rattle.cycle.specs.declared.FactorAnswer.the-variants.{Factor, Refused}
+
+-- "each 0 to 4,000"
+abbrev pub mostAmperes : ℕ
+mostAmperes = 4000
+
+-- the first hour above 4,000 A, counted from k; past the last where there is none
+abbrev pub firstAbove : ℕ → List ℕ → ℕ
+firstAbove k [] = k
+firstAbove k (x ∷ hours) = cond (ltb mostAmperes x) k (firstAbove (suc k) hours)
+
+-- "all hours 0"
+abbrev pub allZero : List ℕ → Bool
+allZero [] = true
+allZero (x ∷ hours) = eqb x 0 && allZero hours
+
+abbrev pub refused10 : ℕ → Refusal
+refused10 hour = record { number = 10; place = Hour hour }
+
+abbrev pub refused11 : Refusal
+refused11 = record { number = 11; place = None }
+
+-- 10, 11 and the factor, from the shares at whole hours
+unfoldable pub factorFrom : (ℕ → Bounds) → List ℕ → FactorAnswer
+factorFrom pairs hours =
+    cond (ltb (firstAbove 0 hours) dayHours) (Refused (refused10 (firstAbove 0 hours)))
+    (cond (allZero hours) (Refused refused11)
+    (Factor (largestFactor (heatingSum pairs hours (referenceHour hours)))))
+
+-- what follows where checks 2 and 3 pass; their refusal passes out unchanged
+abbrev pub afterChecks : CableCheck → FactorAnswer → FactorAnswer
+afterChecks (C.Accepted c) answer = answer
+afterChecks (C.Refused f) answer = Refused f
+
+-- "G at whole hours"
+abbrev pub hourPair : Cable → ℕ → Bounds
+hourPair cable hour = sharePair cable (60 * hour)
+
+abbrev pub hourShare : Cable → ℕ → Value
+hourShare cable hour = exactShare cable (60 * hour)
+
+unfoldable pub factorAnswer : Cable → List ℕ → FactorAnswer
+factorAnswer cable hours = afterChecks (checked cable) (factorFrom (hourPair cable) hours)
+
+-- the paper's number, place and values of each answer
+abbrev pub statedFactor : FactorAnswer → Stated
+statedFactor (Factor m) = statedValues (pos m ∷ [])
+statedFactor (Refused f) = statedRefusal f
+
+-- the answer, and how far a factor may be from the exact one: 'What the distances say'
+pub record FactorSaid (cable : Cable) (hours : List ℕ) (r : FactorAnswer) : Type 0 where
+  pub answer : r ≡ factorAnswer cable hours
+  pub distance : (m : ℕ) → r ≡ Factor m → FactorDistance shareWidth (exactHeating (hourShare cable) hours (referenceHour hours)) m

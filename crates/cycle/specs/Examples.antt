@@ -1,0 +1,163 @@
+-- Worked examples of the daily cycle: document 01, 'The daily cycle', 'When the desk is told no', numbers 10 and 11, and 'Wrong turns that look
+-- sensible'. The shares are pairs given by hand.
+use mathlib.Core.Path.{_≡_, refl}
+use mathlib.Core.List.{List, [], _∷_}
+use Prim.Native.Nat.{ℕ, zero, suc}
+use lib.IntN.{pos}
+use Rattle.numbers.specs.Integer.{lesser, greater}
+use Rattle.numbers.specs.Rounding.{floorZ, ceilZ}
+use Rattle.numbers.specs.Largest.{largest}
+use Rattle.bounds.specs.Operations.{addB, mulB, dividedB}
+use Rattle.bounds.specs.declared.Bounds.{Bounds}
+use Rattle.cable.specs.Stated.{no-place, an-hour}
+use Rattle.cable.specs.declared.CableCheck.the-variants as C
+use Rattle.cable.specs.declared.Place.the-variants.{None}
+use Rattle.cycle.specs.Day.{referenceHour, latestHighest, earlier, squaredLoads}
+use Rattle.cycle.specs.Heating.{relativeLoad, gatheredBounds, heatingBounds, heatingSum}
+use Rattle.cycle.specs.Factor.{allowed, largestFactor}
+use Rattle.cycle.specs.Answer.{refused10, refused11, factorFrom, afterChecks, statedFactor}
+use Rattle.cycle.specs.declared.FactorAnswer.the-variants.{Factor, Refused}
+
+-- n hours of x amperes, then the rest
+abbrev of : ℕ → ℕ → List ℕ → List ℕ
+of zero x rest = rest
+of (suc n) x rest = x ∷ of n x rest
+
+abbrev pair : ℕ → ℕ → Bounds
+pair low high = record { low = pos low; high = pos high }
+
+-- G rises by 100,000 millionths an hour, with 40 of doubt
+abbrev rising : ℕ → Bounds
+rising zero = pair 0 0
+rising (suc zero) = pair 100000 100040
+rising (suc (suc zero)) = pair 200000 200040
+rising (suc (suc (suc zero))) = pair 300000 300040
+rising (suc (suc (suc (suc zero)))) = pair 400000 400040
+rising (suc (suc (suc (suc (suc zero))))) = pair 500000 500040
+rising (suc (suc (suc (suc (suc (suc n)))))) = pair 600000 600040
+
+-- ---- the reference hour and the hours before it
+
+latest-of-equal : referenceHour (of 3 100 (of 2 300 (of 4 100 (of 1 300 (of 14 100 []))))) ≡ 9
+unfolding latestHighest
+latest-of-equal = refl
+
+-- the largest number, and not the latest of a run across midnight
+latest-by-number : referenceHour (of 3 300 (of 18 100 (of 3 300 []))) ≡ 23
+unfolding latestHighest
+latest-by-number = refl
+
+before-midnight : earlier 0 1 ≡ 23
+before-midnight = refl
+
+five-before-two : earlier 2 5 ≡ 21
+five-before-two = refl
+
+hour-itself : earlier 7 0 ≡ 7
+hour-itself = refl
+
+-- hour 0 is the reference hour; the hour before it is 23, with half the load
+across-midnight : relativeLoad (of 1 2 (of 22 0 (of 1 1 []))) 0 1 ≡ 24
+unfolding relativeLoad squaredLoads
+across-midnight = refl
+
+-- at 6 it is the mean
+mean-at-six : relativeLoad (of 1 2 (of 22 0 (of 1 1 []))) 0 6 ≡ 5
+unfolding relativeLoad squaredLoads
+mean-at-six = refl
+
+-- ---- the sum
+
+-- an even load: nothing multiplies any share, and the sum is 1 whatever the pairs are
+even-load : heatingSum rising (of 24 200 []) 23 ≡ pos 1000000
+unfolding heatingBounds gatheredBounds relativeLoad squaredLoads latestHighest addB mulB dividedB floorZ ceilZ lesser greater
+even-load = refl
+
+-- one hour loaded: (24·G(1) − G(6) + 1,000,000) / 24 with the high G(1) and the low G(6), 116,706.67 rounded up
+one-hour : heatingSum rising (of 7 0 (of 1 400 (of 16 0 []))) 7 ≡ pos 116707
+unfolding heatingBounds gatheredBounds relativeLoad squaredLoads latestHighest addB mulB dividedB floorZ ceilZ lesser greater
+one-hour = refl
+
+-- (72·G(1) + 24·G(2) − 5·G(6) + 5,000,000) / 96 is 145,873.33
+sum-across-midnight : heatingSum rising (of 1 2 (of 22 0 (of 1 1 []))) 0 ≡ pos 145874
+unfolding heatingBounds gatheredBounds relativeLoad squaredLoads latestHighest addB mulB dividedB floorZ ceilZ lesser greater
+sum-across-midnight = refl
+
+-- another reference hour, where Y0 is below 1: (−192·G(1) + 216·G(2) − 10·G(6) + 10,000,000) / 216 is 129,669.63
+another-hour : heatingSum rising (of 1 3 (of 1 1 (of 22 0 []))) 1 ≡ pos 129670
+unfolding heatingBounds gatheredBounds relativeLoad squaredLoads latestHighest addB mulB dividedB floorZ ceilZ lesser greater
+another-hour = refl
+
+-- ---- the factor
+
+factor-of-one : largestFactor (pos 1000000) ≡ 1000
+unfolding largest allowed
+factor-of-one = refl
+
+-- a millionth more: 999, and not raised to 1,000
+factor-of-more : largestFactor (pos 1000001) ≡ 999
+unfolding largest allowed
+factor-of-more = refl
+
+most-factor : largestFactor (pos 40000) ≡ 5000
+unfolding largest allowed
+most-factor = refl
+
+below-most-factor : largestFactor (pos 40001) ≡ 4999
+unfolding largest allowed
+below-most-factor = refl
+
+factor-of-nothing : largestFactor (pos 0) ≡ 5000
+unfolding largest allowed
+factor-of-nothing = refl
+
+even-factor : factorFrom rising (of 24 200 []) ≡ Factor 1000
+unfolding factorFrom heatingBounds gatheredBounds relativeLoad squaredLoads latestHighest addB mulB dividedB floorZ ceilZ lesser greater largest allowed
+even-factor = refl
+
+-- shares that are all but 1: (24·G(1) − G(6) + 1,000,000) / 24 passes 1,000,000
+abbrev nearly : ℕ → Bounds
+nearly hour = pair 999999 1000000
+
+nearly-even : factorFrom nearly (of 1 400 (of 23 0 [])) ≡ Factor 999
+unfolding factorFrom heatingBounds gatheredBounds relativeLoad squaredLoads latestHighest addB mulB dividedB floorZ ceilZ lesser greater largest allowed
+nearly-even = refl
+
+-- ---- refusals
+
+-- "hour 5 with 4,001"
+hour-five : factorFrom rising (of 5 0 (of 1 4001 (of 18 0 []))) ≡ Refused (refused10 5)
+unfolding factorFrom
+hour-five = refl
+
+first-of-two : factorFrom rising (of 5 4000 (of 1 4001 (of 17 100 (of 1 5000 [])))) ≡ Refused (refused10 5)
+unfolding factorFrom
+first-of-two = refl
+
+last-hour : factorFrom rising (of 23 0 (of 1 4001 [])) ≡ Refused (refused10 23)
+unfolding factorFrom
+last-hour = refl
+
+most-amperes : factorFrom rising (of 24 4000 []) ≡ Factor 1000
+unfolding factorFrom heatingBounds gatheredBounds relativeLoad squaredLoads latestHighest addB mulB dividedB floorZ ceilZ lesser greater largest allowed
+most-amperes = refl
+
+-- "24 zeros"
+no-load : factorFrom rising (of 24 0 []) ≡ Refused refused11
+unfolding factorFrom
+no-load = refl
+
+-- 3 before 10
+check-first : afterChecks (C.Refused (record { number = 3; place = None })) (factorFrom rising (of 24 4001 [])) ≡ Refused (record { number = 3; place = None })
+check-first = refl
+
+-- ---- the paper's numbers
+
+stated-factor : statedFactor (Factor 999) ≡ record { number = 0; kind = no-place; place = 0; values = pos 999 ∷ [] }
+stated-factor = refl
+
+stated-10 : statedFactor (Refused (refused10 0)) ≡ record { number = 10; kind = an-hour; place = 0; values = [] }
+stated-10 = refl
+
+stated-11 : statedFactor (Refused refused11) ≡ record { number = 11; kind = no-place; place = 0; values = [] }
+stated-11 = refl

@@ -1,0 +1,4 @@
+pub mod Around
+pub mod Limits
+pub mod Spread
+pub mod Enclosed

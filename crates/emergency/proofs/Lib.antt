@@ -1,0 +1,5 @@
+pub mod Certifying
+pub mod Answers
+pub mod Distance
+pub mod Said
+pub mod Limit

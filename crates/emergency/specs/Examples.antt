@@ -1,0 +1,107 @@
+-- Worked examples of the certifying rule and of the refusals: document 01, 'The emergency current', 'When the desk is told no', numbers 9, 12 and 13.
+-- The share is a pair given by hand.
+use mathlib.Core.Path.{_≡_, refl}
+use mathlib.Core.Bool.{true, false}
+use mathlib.Core.List.{[], _∷_}
+use Prim.Native.Nat.{ℕ}
+use lib.IntN.{pos}
+use Rattle.numbers.specs.Largest.{largest}
+use Rattle.bounds.specs.declared.Bounds.{Bounds}
+use Rattle.cable.specs.Stated.{no-place, an-input}
+use Rattle.share.specs.Answer.{refused9}
+use Rattle.share.specs.declared.ShareAnswer.the-variants as S
+use Rattle.emergency.specs.Certifying.{certified}
+use Rattle.emergency.specs.Answer.{refused12, refused13, currentFrom, afterShare, statedCurrent}
+use Rattle.emergency.specs.declared.CurrentAnswer.the-variants.{Current, Refused}
+
+abbrev pair : ℕ → ℕ → Bounds
+pair low high = record { low = pos low; high = pos high }
+
+-- ---- the rule
+
+-- a preload of the rated current up to the rated rise: the rated current keeps it, and one ampere more does not
+rated-keeps : certified 400 100 100 (pos 340186) 400 ≡ true
+unfolding certified
+rated-keeps = refl
+
+above-rated-breaks : certified 400 100 100 (pos 340186) 401 ≡ false
+unfolding certified
+above-rated-breaks = refl
+
+rated-itself : currentFrom 400 100 100 (pair 340185 340186) ≡ Current 400
+unfolding currentFrom largest certified
+rated-itself = refl
+
+-- 400 · √(0.5625 + 0.6375 / 0.245732) is between 710 and 711; the low share would give more
+from-the-high-share : currentFrom 400 75 120 (pair 0 245732) ≡ Current 710
+unfolding currentFrom largest certified
+from-the-high-share = refl
+
+-- a share of nothing certifies every current
+nothing-attained : currentFrom 400 75 120 (pair 0 0) ≡ Current 10000
+unfolding currentFrom largest certified
+nothing-attained = refl
+
+-- ---- 13: h² against 100·r
+
+equality-accepted : currentFrom 400 50 25 (pair 340185 340186) ≡ Current 200
+unfolding currentFrom largest certified
+equality-accepted = refl
+
+rated-401 : currentFrom 401 50 25 (pair 340185 340186) ≡ Current 200
+unfolding currentFrom largest certified
+rated-401 = refl
+
+too-hot : currentFrom 400 51 25 (pair 340185 340186) ≡ Refused refused13
+unfolding currentFrom
+too-hot = refl
+
+-- ---- 12: the ends of the ranges, and h before r
+
+most-preload : currentFrom 50 200 200 (pair 0 1000000) ≡ Refused refused13
+unfolding currentFrom
+most-preload = refl
+
+preload-201 : currentFrom 400 201 100 (pair 0 1000000) ≡ Refused (refused12 1)
+unfolding currentFrom
+preload-201 = refl
+
+limit-0 : currentFrom 400 0 0 (pair 0 1000000) ≡ Refused (refused12 2)
+unfolding currentFrom
+limit-0 = refl
+
+limit-201 : currentFrom 400 0 201 (pair 0 1000000) ≡ Refused (refused12 2)
+unfolding currentFrom
+limit-201 = refl
+
+least-limit : currentFrom 400 0 1 (pair 999999 1000000) ≡ Current 40
+unfolding currentFrom largest certified
+least-limit = refl
+
+most-limit : currentFrom 400 0 200 (pair 999999 1000000) ≡ Current 565
+unfolding currentFrom largest certified
+most-limit = refl
+
+preload-before-limit : currentFrom 400 201 0 (pair 0 1000000) ≡ Refused (refused12 1)
+unfolding currentFrom
+preload-before-limit = refl
+
+-- ---- the order: 9 before 12, 12 before 13
+
+share-first : afterShare (S.Refused refused9) (currentFrom 400 201 100 (pair 0 1000000)) ≡ Refused refused9
+share-first = refl
+
+limit-before-heat : currentFrom 400 1 0 (pair 0 1000000) ≡ Refused (refused12 2)
+unfolding currentFrom
+limit-before-heat = refl
+
+-- ---- the paper's numbers
+
+stated-current : statedCurrent (Current 710) ≡ record { number = 0; kind = no-place; place = 0; values = pos 710 ∷ [] }
+stated-current = refl
+
+stated-12 : statedCurrent (Refused (refused12 2)) ≡ record { number = 12; kind = an-input; place = 2; values = [] }
+stated-12 = refl
+
+stated-13 : statedCurrent (Refused refused13) ≡ record { number = 13; kind = no-place; place = 0; values = [] }
+stated-13 = refl

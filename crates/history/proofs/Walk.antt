@@ -1,0 +1,118 @@
+-- The walk along a chain: what a turn adds to the sum, the answer of the whole sheet is that of the rest, at every record.
+use mathlib.Core.Path.{_≡_, refl, sym, ap, ap₂, _∙_}
+use mathlib.Core.Bool.{false}
+use mathlib.Core.List.{List, [], _∷_}
+use Prim.Native.Nat.{ℕ, suc, _*_}
+use native.Mathlib.Omega.{arith}
+use lib.IntN.{pos, +ℤ-assoc, +ℤ-idr}
+use Rattle.bounds.specs.Operations.{pointB, addB, dividedB}
+use Rattle.bounds.specs.declared.Bounds.{Bounds}
+use Rattle.bounds.proofs.Enclosure.{same-ends}
+use Rattle.cable.specs.Checks.{outside, _to_, checked}
+use Rattle.cable.specs.declared.Cable.{Cable}
+use Rattle.cable.specs.declared.Refusal.{Refusal}
+use Rattle.cable.specs.declared.CableCheck.the-variants as C
+use Rattle.share.specs.Pair.{sharePair}
+use Rattle.share.specs.Answer.{mostMinutes, shareAnswer}
+use Rattle.share.specs.declared.ShareAnswer.the-variants as S
+use Rattle.sheet.specs.Header.{checkedHeader}
+use Rattle.sheet.specs.Records.{beforeFirst, recordAt, checkedRecord}
+use Rattle.sheet.specs.Chain.{Step, Chain, steps, refused, stepOf, withStep, chainFrom, chainOf}
+use Rattle.sheet.specs.declared.Header.{Header}
+use Rattle.sheet.specs.declared.HeaderCheck.the-variants as H
+use Rattle.sheet.specs.declared.LoadRecord.{LoadRecord}
+use Rattle.sheet.specs.declared.RecordRead.the-variants.{Held, Missing}
+use Rattle.sheet.specs.declared.RecordCheck.the-variants as K
+use Rattle.sheet.proofs.HeaderChecks.{accepted-header}
+use Rattle.sheet.proofs.RecordChecks.{header-held}
+use Rattle.sheet.proofs.ChainTurns.{chain-ends, chain-refused, chain-goes-on}
+use Rattle.history.specs.Rise.{stepHeat, startHeat, sumOf, riseOf}
+use Rattle.history.specs.Answer.{afterHeader, afterChain, riseAnswer, Begins}
+use Rattle.history.specs.declared.RiseAnswer.{RiseAnswer}
+use Rattle.history.specs.declared.RiseAnswer.the-variants.{Rise, Refused}
+
+-- ---- sums of pairs
+
+add-assoc : (a b c : Bounds) → addB (addB a b) c ≡ addB a (addB b c)
+unfolding addB
+add-assoc a b c = same-ends (+ℤ-assoc (a .low) (b .low) (c .low)) (+ℤ-assoc (a .high) (b .high) (c .high))
+
+add-nothing : (a : Bounds) → addB a (pointB (pos 0)) ≡ a
+unfolding addB
+add-nothing a = same-ends (+ℤ-idr (a .low)) (+ℤ-idr (a .high))
+
+-- ---- one turn
+
+same-rise : (c : Chain) (f g : List Step → Bounds) → ((ss : List Step) → f ss ≡ g ss) → afterChain c f ≡ afterChain c g
+same-rise (steps ss) f g h = ap Rise (h ss)
+same-rise (refused e) f g h = refl
+
+step-first : (s : Step) (c : Chain) (f : List Step → Bounds) → afterChain (withStep s c) f ≡ afterChain c (λ ss. f (s ∷ ss))
+step-first s (steps ss) f = refl
+step-first s (refused e) f = refl
+
+module _ (pairs : ℕ → Bounds) (rated : ℕ) where
+  -- the sum so far, and the steps that are still to come after a record
+  riseWith : Bounds → ℕ → List Step → Bounds
+  riseWith sum previous ss = dividedB (addB sum (sumOf pairs previous ss)) (rated * rated)
+
+  -- the answer of the chain after a record, the sum so far given
+  pub rest : List ℕ → LoadRecord → Bounds → RiseAnswer
+  rest s r sum = afterChain (chainFrom (suc (r .minutes)) s r) (riseWith sum (r .amperes))
+
+  module _ (s : List ℕ) (r : LoadRecord) (sum : Bounds) where
+    pub rest-ends : r .next ≡ 0 → Rise (dividedB sum (rated * rated)) ≡ rest s r sum
+    unfolding rest riseWith sumOf
+    rest-ends z =
+        ap (λ b. Rise (dividedB b (rated * rated))) (sym (add-nothing sum))
+        ∙ ap (λ c. afterChain c (riseWith sum (r .amperes))) (sym (chain-ends s r z))
+
+    module _ (z : r .next ≡ 0 → ⊥) where
+      pub rest-refused : {f : Refusal} → checkedRecord r (recordAt s (r .next)) ≡ K.Refused f → Refused f ≡ rest s r sum
+      unfolding rest
+      rest-refused e = ap (λ c. afterChain c (riseWith sum (r .amperes))) (sym (chain-refused s r z e))
+
+      pub rest-goes-on : {n : LoadRecord} → checkedRecord r (recordAt s (r .next)) ≡ K.Accepted n → rest s n (addB sum (stepHeat (pairs (n .minutes)) (r .amperes) (n .amperes))) ≡ rest s r sum
+      unfolding rest riseWith sumOf
+      rest-goes-on {n} e =
+          same-rise (chainFrom (suc (n .minutes)) s n) _ _
+          (λ ss. ap (λ b. dividedB b (rated * rated)) (add-assoc sum (stepHeat (pairs (n .minutes)) (r .amperes) (n .amperes)) (sumOf pairs (n .amperes) ss)))
+          ∙ sym (step-first (stepOf n) (chainFrom (suc (n .minutes)) s n) (riseWith sum (r .amperes)))
+          ∙ ap (λ c. afterChain c (riseWith sum (r .amperes))) (sym (chain-goes-on s r z e))
+
+-- ---- the whole sheet
+
+module _ (s : List ℕ) where
+  pub header-refused : {f : Refusal} → checkedHeader s ≡ H.Refused f → Refused f ≡ riseAnswer s
+  unfolding riseAnswer
+  header-refused e = rw (e, riseAnswer)
+
+  -- the walk begins with the header's own record and its current's part
+  pub rest-of-all : {h : Header} → checkedHeader s ≡ H.Accepted h → rest (sharePair (h .cable)) (h .cable .rated) s (beforeFirst (h .start) (h .link)) (startHeat (h .start)) ≡ riseAnswer s
+  unfolding riseAnswer rest riseWith riseOf
+  rest-of-all {h} e =
+      ap (λ (g : Header). afterChain (chainFrom (suc (suc mostMinutes)) s (beforeFirst (g .start) (g .link))) (riseOf (sharePair (h .cable)) (h .start) (h .cable .rated))) (accepted-header s e .is)
+      ∙ rw (e, riseAnswer)
+
+-- an accepted cable and an accepted record's minutes have a share
+pub share-answered : (cable : Cable) (minutes : ℕ) {c : Cable} → checked cable ≡ C.Accepted c → outside (1 to mostMinutes) minutes ≡ false → shareAnswer cable minutes ≡ S.Pair (sharePair cable minutes)
+unfolding shareAnswer
+share-answered cable minutes a o = rw (a, o, shareAnswer)
+
+-- ---- where a walk begins
+
+module _ (s : List ℕ) {h : Header} (e : checkedHeader s ≡ H.Accepted h) where
+  pub begins-plain : {first : LoadRecord} → first ≡ beforeFirst (h .start) (h .link) → Begins s (h .cable) first
+  begins-plain f = rw f (record { header = e; record-0 = refl })
+
+  -- the header is held as record 0
+  header-read : recordAt s 0 ≡ Held (beforeFirst (h .start) (h .link))
+  header-read =
+      let a = accepted-header s e in
+      sym (header-held s 0 (a .length-right) (omega arith) refl) ∙ ap (λ (g : Header). Held (beforeFirst (g .start) (g .link))) (sym (a .is))
+
+  pub begins-read : {first : LoadRecord} → recordAt s 0 ≡ Held first → Begins s (h .cable) first
+  begins-read {first} r = let f : first ≡ beforeFirst (h .start) (h .link) = cc header-read in begins-plain f
+
+  pub header-not-missing : recordAt s 0 ≡ Missing → ⊥
+  header-not-missing r = let z : _≡_ {A = ℕ} 0 1 = cc header-read in omega arith

@@ -1,0 +1,46 @@
+-- The header's refusal passes out; an accepted header goes to the walk.
+use mathlib.Core.Path.{sym, _∙_}
+use borrow.Author.Needs.{needs}
+use Rattle.history.proofs.Walk.{header-refused, begins-plain}
+use Rattle.history.proofs.Said.{said}
+use Rattle.history.proofs.rise.Statement.{statement}
+use Rattle.history.proofs.rise.Tie as tie
+
+check-header-requires : tie.Need-check-header-requires
+check-header-requires c κs = search needs
+
+enum-known-checked : tie.Need-enum-known-checked
+enum-known-checked c = search needs
+
+enum-told : tie.Need-enum-told
+enum-told c = search needs
+
+header-refusal-requires : tie.Need-header-refusal-requires
+header-refusal-requires c κs = rw (c .enum-told .given .1) tt
+
+returns : tie.Need-returns
+returns c = said (header-refused _ (sym (c .before .before .before .check-header .ensures .answer) ∙ c .header-refusal .ensures))
+
+before-first-requires : tie.Need-before-first-requires
+before-first-requires c κs = search needs
+
+chain-rise-requires : tie.Need-chain-rise-requires
+chain-rise-requires c κs =
+    let k = c .before .before .before in
+    begins-plain _ (sym (k .before .before .check-header .ensures .answer) ∙ k .checked .given .1) (c .before .before-first .ensures)
+
+returns-2 : tie.Need-returns-2
+returns-2 c = search needs
+
+pub rise-spec : {M : Type 1} → statement M
+rise-spec =
+    tie.close
+    (tie.spec
+    check-header-requires
+    enum-known-checked
+    enum-told
+    header-refusal-requires
+    returns
+    before-first-requires
+    chain-rise-requires
+    returns-2)

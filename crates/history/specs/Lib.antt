@@ -1,0 +1,4 @@
+pub mod Rise
+pub mod Exact
+pub mod Answer
+pub mod Examples

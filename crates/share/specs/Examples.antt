@@ -1,0 +1,45 @@
+-- Worked examples of the answer: document 01, 'When the desk is told no', the order of the share, and that an accepted cable is answered.
+use mathlib.Core.Path.{_≡_, refl}
+use Prim.Native.Nat.{ℕ}
+use Rattle.cable.specs.Checks.{checked, outsideField}
+use Rattle.cable.specs.declared.Cable.{Cable}
+use Rattle.cable.specs.declared.Place.the-variants.{None, Field}
+use Rattle.share.specs.Pair.{sharePair}
+use Rattle.share.specs.Answer.{shareAnswer, refused9}
+use Rattle.share.specs.declared.ShareAnswer.the-variants.{Pair, Refused}
+
+-- cable A of 'Cases', with another diameter and another slow rate
+abbrev cableA : ℕ → ℕ → Cable
+cableA diameter slow =
+    record {
+      diameter = diameter;
+      depth = 1000;
+      diffusivity = 500;
+      «surface_ratio» = 600000;
+      «fast_weight» = 500000;
+      «fast_rate» = 1000;
+      «slow_rate» = slow;
+      rated = 400;
+    }
+
+-- the ends of the minutes' range are answered with the pair
+one-minute : shareAnswer (cableA 500 100) 1 ≡ Pair (sharePair (cableA 500 100) 1)
+unfolding shareAnswer checked outsideField
+one-minute = refl
+
+two-days : shareAnswer (cableA 500 100) 2880 ≡ Pair (sharePair (cableA 500 100) 2880)
+unfolding shareAnswer checked outsideField
+two-days = refl
+
+no-minutes : shareAnswer (cableA 500 100) 0 ≡ Refused refused9
+unfolding shareAnswer checked outsideField
+no-minutes = refl
+
+-- with two faults the first in the order is given
+diameter-before-rates : shareAnswer (cableA 99 1001) 60 ≡ Refused (record { number = 2; place = Field 1 })
+unfolding shareAnswer checked outsideField
+diameter-before-rates = refl
+
+rates-before-minutes : shareAnswer (cableA 500 1001) 2881 ≡ Refused (record { number = 3; place = None })
+unfolding shareAnswer checked outsideField
+rates-before-minutes = refl

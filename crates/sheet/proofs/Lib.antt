@@ -1,0 +1,5 @@
+pub mod BigEndian
+pub mod RightLength
+pub mod HeaderChecks
+pub mod RecordChecks
+pub mod ChainTurns

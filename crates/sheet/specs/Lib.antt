@@ -1,0 +1,8 @@
+pub mod BigEndian
+pub mod Layout
+pub mod Header
+pub mod Records
+pub mod Chain
+pub mod Stated
+pub mod Promises
+pub mod Examples

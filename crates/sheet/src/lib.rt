@@ -1,0 +1,263 @@
+// The load sheet: its bytes, its header with refusals 1 to 4, and one record with refusals 5 to 8. Document 01, 'The load sheet'.
+ghost use mathlib.Core.Path.{_≡_};
+ghost use Prim.Native.Nat.{_+_, _*_, _≤_};
+ghost use lib.Dec.{T};
+ghost use lib.ListN.{length};
+ghost use Rattle.sheet.specs.BigEndian.{bigEndian};
+ghost use Rattle.sheet.specs.Layout.{recordStart, recordCount, wrongLength};
+ghost use Rattle.sheet.specs.Header.{fieldOf, cableOf, startingCurrent, firstLink, headerRefuses};
+ghost use Rattle.sheet.specs.Records.{recordOf, beforeFirst, refusedAt, recordRefuses};
+ghost use Rattle.sheet.specs.Promises.{HeaderSaid, RecordReadAs, RecordSaid};
+
+pub mod reader;
+
+use cable::Cable;
+use cable::CableCheck;
+use cable::Place;
+use cable::Refusal;
+
+// What stands before the records: the cable, the starting current in A and the first link.
+pub struct Header {
+    pub cable: Cable,
+    pub start: u32,
+    pub link: usize,
+}
+
+// The header, or the first refusal in the order 1, 2, 3, 4.
+pub enum HeaderCheck {
+    Accepted(Header),
+    Refused(Refusal),
+}
+
+// A record: its number, the minutes before now, the amperes from then on, the next link.
+pub struct LoadRecord {
+    pub number: u8,
+    pub minutes: u32,
+    pub amperes: u32,
+    pub next: usize,
+}
+
+// What reading a record finds.
+pub enum RecordRead {
+    Held(LoadRecord),
+    Missing,
+}
+
+// The record that a link leads to, or the first refusal in the order 5, 6, 7, 8.
+pub enum RecordCheck {
+    Accepted(LoadRecord),
+    Refused(Refusal),
+}
+
+const HEADER_LENGTH: usize = 36;
+
+const RECORD_LENGTH: usize = 6;
+
+const MOST_RECORDS: usize = 48;
+
+const MOST_MINUTES: u32 = 2880;
+
+const MOST_AMPERES: u32 = 4000;
+
+// The number of `width` bytes at `at`, the most significant first.
+fn number_at(sheet: &[u8], at: usize, width: usize) -> u32
+    requires { ⌜ (at + width ≤ length (now sheet)) × (width ≤ 4) ⌝ }
+    ensures { λ r. ⌜ r ≡ bigEndian (now (sheet .entry)) at width ⌝ }
+{
+    let mut number: u32 = 0;
+    let mut i: usize = 0;
+    while i < width {
+        number = number * 256 + wide(sheet[at + i]);
+        i += 1;
+    }
+    number
+}
+
+fn wide(byte: u8) -> u32
+    ensures { λ r. ⌜ r ≡ byte ⌝ }
+{
+    byte as u32
+}
+
+// How many records a sheet of this length holds.
+fn record_count(length: usize) -> usize
+    ensures { λ r. ⌜ r ≡ recordCount length ⌝ }
+{
+    if length < HEADER_LENGTH {
+        0
+    } else {
+        (length - HEADER_LENGTH) / RECORD_LENGTH
+    }
+}
+
+// Whether refusal 1 meets a sheet of this length.
+fn wrong_length(length: usize) -> bool
+    ensures { λ r. ⌜ r ≡ wrongLength length ⌝ }
+{
+    let count = record_count(length);
+    MOST_RECORDS < count || length != HEADER_LENGTH + RECORD_LENGTH * count
+}
+
+// Field `number` of the table, counted from 1.
+fn field(sheet: &[u8], number: usize) -> u32
+    requires { ⌜ (1 ≤ number) × (number ≤ 8) × (36 ≤ length (now sheet)) ⌝ }
+    ensures { λ r. ⌜ r ≡ fieldOf (now (sheet .entry)) number ⌝ }
+{
+    number_at(sheet, 4 * (number - 1), 4)
+}
+
+fn cable_of(sheet: &[u8]) -> Cable
+    requires { ⌜ 36 ≤ length (now sheet) ⌝ }
+    ensures { λ r. ⌜ r ≡ cableOf (now (sheet .entry)) ⌝ }
+{
+    Cable {
+        diameter: field(sheet, 1),
+        depth: field(sheet, 2),
+        diffusivity: field(sheet, 3),
+        surface_ratio: field(sheet, 4),
+        fast_weight: field(sheet, 5),
+        fast_rate: field(sheet, 6),
+        slow_rate: field(sheet, 7),
+        rated: field(sheet, 8),
+    }
+}
+
+fn starting_current(sheet: &[u8]) -> u32
+    requires { ⌜ 36 ≤ length (now sheet) ⌝ }
+    ensures { λ r. ⌜ r ≡ startingCurrent (now (sheet .entry)) ⌝ }
+{
+    number_at(sheet, 32, 2)
+}
+
+fn first_link(sheet: &[u8]) -> usize
+    requires { ⌜ 36 ≤ length (now sheet) ⌝ }
+    ensures { λ r. ⌜ r ≡ firstLink (now (sheet .entry)) ⌝ }
+{
+    number_at(sheet, 34, 2) as usize
+}
+
+// The header of a sheet of any length, or its first refusal.
+pub fn check_header(sheet: &[u8]) -> HeaderCheck
+    ensures { λ r. ⌜ HeaderSaid (now (sheet .entry)) r ⌝ }
+{
+    if wrong_length(sheet.len()) {
+        return HeaderCheck::Refused(Refusal {
+            number: 1,
+            place: Place::None,
+        });
+    }
+    let checked = cable::check_cable(cable_of(sheet));
+    let CableCheck::Accepted(cable) = checked else {
+        return HeaderCheck::Refused(cable::refusal_of(checked));
+    };
+    let start = starting_current(sheet);
+    if MOST_AMPERES < start {
+        return HeaderCheck::Refused(Refusal {
+            number: 4,
+            place: Place::None,
+        });
+    }
+    let link = first_link(sheet);
+    HeaderCheck::Accepted(Header { cable, start, link })
+}
+
+// The refusal of a header that is refused; the other arm is never taken.
+pub fn header_refusal(check: HeaderCheck) -> Refusal
+    requires { ⌜ T (headerRefuses check) ⌝ }
+    ensures { λ r. ⌜ check ≡ HeaderCheck.Refused r ⌝ }
+{
+    match check {
+        HeaderCheck::Refused(refusal) => refusal,
+        HeaderCheck::Accepted(_) => Refusal {
+            number: 1,
+            place: Place::None,
+        },
+    }
+}
+
+// The header as the record before the first: the starting current, from earlier than every step, and the first link.
+pub fn before_first(start: u32, link: usize) -> LoadRecord
+    ensures { λ r. ⌜ r ≡ beforeFirst start link ⌝ }
+{
+    LoadRecord {
+        number: 0,
+        minutes: MOST_MINUTES + 1,
+        amperes: start,
+        next: link,
+    }
+}
+
+// Record `number` of a sheet: the header's for 0, and missing above the last one.
+pub fn record_at(sheet: &[u8], number: usize) -> RecordRead
+    ensures { λ r. ⌜ RecordReadAs (now (sheet .entry)) number r ⌝ }
+{
+    let length = sheet.len();
+    if wrong_length(length) {
+        return RecordRead::Missing;
+    }
+    if record_count(length) < number {
+        return RecordRead::Missing;
+    }
+    if number == 0 {
+        return RecordRead::Held(before_first(starting_current(sheet), first_link(sheet)));
+    }
+    RecordRead::Held(held_record(sheet, number))
+}
+
+fn held_record(sheet: &[u8], number: usize) -> LoadRecord
+    requires { ⌜ (1 ≤ number) × (number ≤ 48) × (recordStart number + 6 ≤ length (now sheet)) ⌝ }
+    ensures { λ r. ⌜ r ≡ recordOf (now (sheet .entry)) number ⌝ }
+{
+    let at = HEADER_LENGTH + RECORD_LENGTH * (number - 1);
+    let minutes = number_at(sheet, at, 2);
+    let amperes = number_at(sheet, at + 2, 2);
+    let next = number_at(sheet, at + 4, 2) as usize;
+    LoadRecord {
+        number: number as u8,
+        minutes,
+        amperes,
+        next,
+    }
+}
+
+// What was read at the link of the record `before`, or its first refusal.
+pub fn check_record(before: LoadRecord, read: RecordRead) -> RecordCheck
+    ensures { λ r. ⌜ RecordSaid before read r ⌝ }
+{
+    let RecordRead::Held(record) = read else {
+        return refused_at(5, before.number);
+    };
+    if cable::outside(record.minutes, 1, MOST_MINUTES) {
+        return refused_at(6, record.number);
+    }
+    if MOST_AMPERES < record.amperes {
+        return refused_at(7, record.number);
+    }
+    if before.minutes <= record.minutes {
+        return refused_at(8, record.number);
+    }
+    RecordCheck::Accepted(record)
+}
+
+fn refused_at(number: u8, place: u8) -> RecordCheck
+    ensures { λ r. ⌜ r ≡ refusedAt number place ⌝ }
+{
+    RecordCheck::Refused(Refusal {
+        number,
+        place: Place::Record(place),
+    })
+}
+
+// The refusal of a record that is refused; the other arm is never taken.
+pub fn record_refusal(check: RecordCheck) -> Refusal
+    requires { ⌜ T (recordRefuses check) ⌝ }
+    ensures { λ r. ⌜ check ≡ RecordCheck.Refused r ⌝ }
+{
+    match check {
+        RecordCheck::Refused(refusal) => refusal,
+        RecordCheck::Accepted(record) => Refusal {
+            number: 8,
+            place: Place::Record(record.number),
+        },
+    }
+}

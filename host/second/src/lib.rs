@@ -1,0 +1,229 @@
+//! Cyclic and emergency ratings of a buried cable in f64: the exact attained
+//! share, the rise after a load history, the heating sum of a daily cycle and
+//! the emergency current, each with its refusals.
+
+mod integral;
+mod sheet;
+
+pub use integral::{exponential_integral, integral_between};
+pub use sheet::{rise, sheet, Rise};
+
+use integral::Sum;
+use sheet::{MOST_AMPERES, MOST_MINUTES};
+
+pub(crate) const MILLION: f64 = 1_000_000.0;
+
+/// Highest preload and highest limit, in percent.
+const MOST_PERCENT: u32 = 200;
+
+/// Soil diffusivity that a 0 stands for, in 10^-9 m²/s.
+const USUAL_DIFFUSIVITY: u32 = 500;
+
+/// A cable in soil, in whole numbers.
+#[derive(Debug, Clone, Copy, PartialEq, Eq)]
+pub struct Cable {
+    /// Outer diameter, 0.1 mm.
+    pub d: u32,
+    /// Depth of axis, mm.
+    pub l: u32,
+    /// Soil diffusivity, 10^-9 m²/s; 0 stands for 500.
+    pub s: u32,
+    /// Steady surface rise over conductor rise, millionths.
+    pub k: u32,
+    /// Weight of the fast part, millionths.
+    pub w: u32,
+    /// Fast rate, millionths per second.
+    pub fast: u32,
+    /// Slow rate, millionths per second.
+    pub slow: u32,
+    /// Rated current, A.
+    pub rated: u32,
+}
+
+/// Where a refusal points.
+#[derive(Debug, Clone, Copy, PartialEq, Eq)]
+pub enum Place {
+    None,
+    Field(u8),
+    Record(u8),
+    Hour(u8),
+    Input(u8),
+}
+
+/// A refusal: its number and its place.
+#[derive(Debug, Clone, Copy, PartialEq, Eq)]
+pub struct Refusal {
+    pub number: u8,
+    pub place: Place,
+}
+
+impl Refusal {
+    pub(crate) fn nowhere(number: u8) -> Refusal {
+        Refusal {
+            number,
+            place: Place::None,
+        }
+    }
+}
+
+/// The heating of a daily cycle.
+#[derive(Debug, Clone, Copy, PartialEq)]
+pub struct Factor {
+    /// T: the exact heating sum in millionths. The exact factor is 1 over the
+    /// square root of T/1,000,000.
+    pub sum_millionths: f64,
+    /// Hour of the highest load, the latest where several are equal.
+    pub reference_hour: usize,
+}
+
+/// The emergency current.
+#[derive(Debug, Clone, Copy, PartialEq)]
+pub struct Current {
+    /// The amperes at which the rule with the exact share is an equality, uncapped.
+    pub exact_amperes: f64,
+    /// The exact share in millionths.
+    pub share_millionths: f64,
+}
+
+/// Refusals 2 and 3.
+pub(crate) fn check_cable(c: &Cable) -> Result<(), Refusal> {
+    let in_range = [
+        (100..=1_500).contains(&c.d),
+        (300..=5_000).contains(&c.l),
+        c.s == 0 || (100..=2_000).contains(&c.s),
+        c.k <= 1_000_000,
+        c.w <= 1_000_000,
+        (1..=100_000).contains(&c.fast),
+        (1..=100_000).contains(&c.slow),
+        (50..=2_000).contains(&c.rated),
+    ];
+    if let Some(i) = in_range.iter().position(|fits| !fits) {
+        return Err(Refusal {
+            number: 2,
+            place: Place::Field(i as u8 + 1),
+        });
+    }
+    if c.slow > c.fast {
+        return Err(Refusal::nowhere(3));
+    }
+    Ok(())
+}
+
+/// Refusal 9.
+fn check_minutes(minutes: u32) -> Result<(), Refusal> {
+    if (1..=MOST_MINUTES).contains(&minutes) {
+        Ok(())
+    } else {
+        Err(Refusal::nowhere(9))
+    }
+}
+
+/// p and q, the limits of the exponential integral: De²/(16tδ) and L²/(tδ).
+fn limits(c: &Cable, minutes: u32) -> (f64, f64) {
+    let diffusivity = if c.s == 0 { USUAL_DIFFUSIVITY } else { c.s };
+    // Seconds times 10^-9 m²/s; every whole number here is exact in f64.
+    let spread = f64::from(60 * minutes) * f64::from(diffusivity);
+    let (d, l) = (f64::from(c.d), f64::from(c.l));
+    (5.0 * d * d / (8.0 * spread), 1_000.0 * l * l / spread)
+}
+
+/// β: attainment of the cable surface, a fraction of one.
+fn surface_attainment(c: &Cable, minutes: u32) -> f64 {
+    let (p, q) = limits(c, minutes);
+    let (d, l) = (f64::from(c.d), f64::from(c.l));
+    let steady = (1_600.0 * l * l / (d * d)).ln();
+    integral_between(p, q) / steady
+}
+
+/// Attainment of the conductor over the surface, in millionths.
+fn conductor_attainment(c: &Cable, minutes: u32) -> f64 {
+    let seconds = u64::from(60 * minutes);
+    // 1 − e^(−rate·t), without loss where the exponent is small.
+    let attained = |rate: u32| -(-((u64::from(rate) * seconds) as f64) / MILLION).exp_m1();
+    f64::from(c.w) * attained(c.fast) + f64::from(1_000_000 - c.w) * attained(c.slow)
+}
+
+/// G in millionths, for a cable and minutes already checked.
+pub(crate) fn exact_share(c: &Cable, minutes: u32) -> f64 {
+    // The surface part is left out for k = 0, where it weighs nothing.
+    let mut ground = f64::from(1_000_000 - c.k);
+    if c.k > 0 {
+        ground += f64::from(c.k) * surface_attainment(c, minutes);
+    }
+    ground * conductor_attainment(c, minutes) / MILLION
+}
+
+/// The attained share G in millionths. Refusals 2, 3, 9.
+pub fn share(c: &Cable, minutes: u32) -> Result<f64, Refusal> {
+    check_cable(c)?;
+    check_minutes(minutes)?;
+    Ok(exact_share(c, minutes))
+}
+
+/// The heating sum of a daily cycle of hourly amperes. Refusals 2, 3, 10, 11.
+pub fn factor(c: &Cable, hours: &[u16; 24]) -> Result<Factor, Refusal> {
+    check_cable(c)?;
+    if let Some(hour) = hours.iter().position(|&amperes| amperes > MOST_AMPERES) {
+        return Err(Refusal {
+            number: 10,
+            place: Place::Hour(hour as u8),
+        });
+    }
+    let mut reference_hour = 0;
+    for hour in 1..24 {
+        if hours[hour] >= hours[reference_hour] {
+            reference_hour = hour;
+        }
+    }
+    if hours[reference_hour] == 0 {
+        return Err(Refusal::nowhere(11));
+    }
+
+    // Squared load i hours before the reference hour, around midnight.
+    let squared = |i: usize| {
+        let amperes = i64::from(hours[(reference_hour + 24 - i) % 24]);
+        amperes * amperes
+    };
+    let highest = squared(0);
+    let all: i64 = (0..24).map(squared).sum();
+
+    // Everything times 24·highest, so that what multiplies each G is whole.
+    // Gathered: Y(j−1) − Yj for G(1) to G(5), Y5 − μ for G(6), and μ alone.
+    let mut heating = Sum::default();
+    heating.add(all as f64 * MILLION);
+    for j in 1..=6 {
+        let later = if j < 6 { 24 * squared(j) } else { all };
+        let weight = 24 * squared(j - 1) - later;
+        heating.add(weight as f64 * exact_share(c, 60 * j as u32));
+    }
+    Ok(Factor {
+        sum_millionths: heating.value() / (24 * highest) as f64,
+        reference_hour,
+    })
+}
+
+/// The emergency current after a preload of h percent of rated current, with a
+/// limit of r percent of rated rise. Refusals 2, 3, 9, 12, 13.
+pub fn current(c: &Cable, h: u32, r: u32, minutes: u32) -> Result<Current, Refusal> {
+    check_cable(c)?;
+    check_minutes(minutes)?;
+    for (input, fits) in [(1, h <= MOST_PERCENT), (2, (1..=MOST_PERCENT).contains(&r))] {
+        if !fits {
+            return Err(Refusal {
+                number: 12,
+                place: Place::Input(input),
+            });
+        }
+    }
+    if h * h > 100 * r {
+        return Err(Refusal::nowhere(13));
+    }
+    let share_millionths = exact_share(c, minutes);
+    // (10,000·i² − h²·rated²)·G = (100·r − h²)·rated²·1,000,000, solved for i.
+    let spare = f64::from(100 * r - h * h) * MILLION / share_millionths;
+    let exact_amperes = f64::from(c.rated) * (f64::from(h * h) + spare).sqrt() / 100.0;
+    Ok(Current {
+        exact_amperes,
+        share_millionths,
+    })
+}
