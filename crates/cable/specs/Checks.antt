@@ -3,6 +3,7 @@ use mathlib.Core.Bool.{Bool, true, false, cond, _&&_, _||_}
 use mathlib.Core.List.{List, [], _∷_}
 use Prim.Native.Nat.{ℕ, suc}
 use lib.Dec.{eqb, ltb}
+use lib.ListN.{getD}
 use Rattle.cable.specs.declared.Cable.{Cable}
 use Rattle.cable.specs.declared.Place.the-variants.{None, Field}
 use Rattle.cable.specs.declared.CableCheck.{CableCheck}
@@ -46,6 +47,20 @@ fields c =
     ∷ c .«slow_rate»
     ∷ c .rated
     ∷ []
+
+-- The cable of eight fields in table order.
+abbrev pub cableFrom : List ℕ → Cable
+cableFrom xs =
+    record {
+      diameter = getD xs 0 0;
+      depth = getD xs 1 0;
+      diffusivity = getD xs 2 0;
+      «surface_ratio» = getD xs 3 0;
+      «fast_weight» = getD xs 4 0;
+      «fast_rate» = getD xs 5 0;
+      «slow_rate» = getD xs 6 0;
+      rated = getD xs 7 0;
+    }
 
 abbrev pub outside : Range → ℕ → Bool
 outside r x = cond (r .zero-too && eqb x 0) false (ltb x (r .low) || ltb (r .high) x)

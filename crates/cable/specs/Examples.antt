@@ -1,7 +1,8 @@
 -- Worked examples of the checks: document 01, 'When the desk is told no', numbers 2 and 3, and 'The cable': "No other zero means missing".
 use mathlib.Core.Path.{_≡_, refl}
+use mathlib.Core.List.{[], _∷_}
 use Prim.Native.Nat.{ℕ}
-use Rattle.cable.specs.Checks.{checked, outsideField, inUse, defaultDiffusivity}
+use Rattle.cable.specs.Checks.{cableFrom, checked, outsideField, inUse, defaultDiffusivity}
 use Rattle.cable.specs.declared.Cable.{Cable}
 use Rattle.cable.specs.declared.Place.the-variants.{None, Field}
 use Rattle.cable.specs.declared.CableCheck.{CableCheck}
@@ -20,6 +21,12 @@ cable d l s k w fast slow rated =
       «slow_rate» = slow;
       rated = rated;
     }
+
+-- eight numbers, handed over in table order
+in-table-order :
+    (d l s k w fast slow rated : ℕ) →
+    cableFrom (d ∷ l ∷ s ∷ k ∷ w ∷ fast ∷ slow ∷ rated ∷ []) ≡ cable d l s k w fast slow rated
+in-table-order d l s k w fast slow rated = refl
 
 abbrev refused-2 : ℕ → CableCheck
 refused-2 field = Refused (record { number = 2; place = Field field })

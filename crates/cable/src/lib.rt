@@ -1,9 +1,12 @@
 // A cable, the refusal of an input and its place, and the checks 2 and 3 of a cable.
 ghost use mathlib.Core.Path.{_≡_};
+ghost use Prim.Native.Nat.{_≤_};
 ghost use lib.Dec.{T};
-ghost use Rattle.cable.specs.Checks.{_to_, orZero, outside, outsideField, refuses};
+ghost use lib.ListN.{length};
+ghost use Rattle.cable.specs.Checks.{_to_, cableFrom, orZero, outside, outsideField, refuses};
 ghost use Rattle.cable.specs.declared.CableCheck.the-variants.{Refused};
 ghost use Rattle.cable.specs.Promises.{Checked, InUse};
+ghost use Rattle.cable.specs.Stated.{placeNumber};
 
 // The fields in the order and the units of document 01's table; a diffusivity of 0 stands for the default.
 pub struct Cable {
@@ -15,6 +18,23 @@ pub struct Cable {
     pub fast_rate: u32,
     pub slow_rate: u32,
     pub rated: u32,
+}
+
+// The cable of its fields in table order; there are eight at least.
+pub fn cable_from(fields: &[u32]) -> Cable
+    requires { ⌜ 8 ≤ length (now fields) ⌝ }
+    ensures { λ r. ⌜ r ≡ cableFrom (now (fields .entry)) ⌝ }
+{
+    Cable {
+        diameter: fields[0],
+        depth: fields[1],
+        diffusivity: fields[2],
+        surface_ratio: fields[3],
+        fast_weight: fields[4],
+        fast_rate: fields[5],
+        slow_rate: fields[6],
+        rated: fields[7],
+    }
 }
 
 // A field, a record, an hour or an input, by its number, or none.
@@ -29,6 +49,19 @@ pub enum Place {
 pub struct Refusal {
     pub number: u8,
     pub place: Place,
+}
+
+// The place's number, 0 for none.
+pub fn place_number(place: Place) -> u8
+    ensures { λ r. ⌜ r ≡ placeNumber place ⌝ }
+{
+    match place {
+        Place::None => 0,
+        Place::Field(number) => number,
+        Place::Record(number) => number,
+        Place::Hour(number) => number,
+        Place::Input(number) => number,
+    }
 }
 
 pub enum CableCheck {

@@ -2,10 +2,8 @@
 ghost use mathlib.Core.Path.{_≡_};
 ghost use lib.IntN.{natAbs};
 ghost use lib.ListN.{length};
-ghost use Rattle.cable.specs.Stated.{placeNumber};
 ghost use Rattle.report.specs.Reading.{Within, FromBytes};
 use bounds::Bounds;
-use cable::Place;
 use cable::Refusal;
 use history::RiseAnswer;
 use libc::STDOUT_FILENO;
@@ -76,19 +74,7 @@ fn print_refusal(refusal: Refusal) {
     io::print_decimal(STDOUT_FILENO, refusal.number as u64);
     io::write_all(STDOUT_FILENO, b" ");
     let place = refusal.place;
-    io::print_decimal(STDOUT_FILENO, place_number(place) as u64);
-}
-
-fn place_number(place: Place) -> u8
-    ensures { λ r. ⌜ r ≡ placeNumber place ⌝ }
-{
-    match place {
-        Place::None => 0,
-        Place::Field(number) => number,
-        Place::Record(number) => number,
-        Place::Hour(number) => number,
-        Place::Input(number) => number,
-    }
+    io::print_decimal(STDOUT_FILENO, cable::place_number(place) as u64);
 }
 
 // In decimal, with a leading minus sign below 0.
