@@ -1,12 +1,9 @@
 // What a program reads and prints: a sheet from a descriptor, and an answer as one line.
-ghost use mathlib.Core.Path.{_≡_};
-ghost use lib.IntN.{natAbs};
-ghost use lib.ListN.{length};
+ghost use Rattle.lines.specs.Lines.{Says};
 ghost use Rattle.report.specs.Reading.{Within, FromBytes};
-use bounds::Bounds;
-use cable::Refusal;
+ghost use Rattle.report.specs.Lines.{riseLine};
 use history::RiseAnswer;
-use libc::STDOUT_FILENO;
+use text::Line;
 
 // How many bytes were read before the input ended or the buffer was full, or that a read failed.
 pub enum Input {
@@ -53,41 +50,15 @@ pub fn rise_from(descriptor: i32) -> Outcome
 }
 
 // `rise LOW HIGH` or `refused NUMBER PLACE`, and the line's end.
-pub fn print_rise(answer: RiseAnswer) {
-    match answer {
-        RiseAnswer::Rise(pair) => print_pair(pair),
-        RiseAnswer::Refused(refusal) => print_refusal(refusal),
-    }
-    io::write_all(STDOUT_FILENO, b"\n");
-}
-
-fn print_pair(pair: Bounds) {
-    io::write_all(STDOUT_FILENO, b"rise ");
-    print_signed(pair.low);
-    io::write_all(STDOUT_FILENO, b" ");
-    print_signed(pair.high);
-}
-
-// The place's number, 0 for none.
-fn print_refusal(refusal: Refusal) {
-    io::write_all(STDOUT_FILENO, b"refused ");
-    io::print_decimal(STDOUT_FILENO, refusal.number as u64);
-    io::write_all(STDOUT_FILENO, b" ");
-    let place = refusal.place;
-    io::print_decimal(STDOUT_FILENO, cable::place_number(place) as u64);
-}
-
-// In decimal, with a leading minus sign below 0.
-fn print_signed(n: i64) {
-    if n < 0 {
-        io::write_all(STDOUT_FILENO, b"-");
-    }
-    io::print_decimal(STDOUT_FILENO, size_of(n));
-}
-
-// The number without its sign: of -1 - m it is m + 1.
-fn size_of(n: i64) -> u64
-    ensures { λ r. ⌜ r ≡ natAbs n ⌝ }
+pub fn rise_line(answer: RiseAnswer) -> Line
+    ensures { λ r. ⌜ Says r (riseLine answer) ⌝ }
 {
-    if n < 0 { (-1 - n) as u64 + 1 } else { n as u64 }
+    match answer {
+        RiseAnswer::Rise(pair) => lines::pair_line(b"rise", pair),
+        RiseAnswer::Refused(refusal) => lines::refusal_line(refusal),
+    }
+}
+
+pub fn print_rise(answer: RiseAnswer) {
+    text::print(rise_line(answer));
 }

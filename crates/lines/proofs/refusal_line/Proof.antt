@@ -1,0 +1,76 @@
+-- Piece by piece, what the definition joins.
+use Rattle.text.specs.Writing.{decimalText}
+use mathlib.Core.Path.{ap}
+use Rattle.lines.proofs.Chain.{followed, followed-by}
+use Rattle.lines.specs.Lines.{refusalLine}
+use borrow.Author.Needs.{needs}
+use Rattle.lines.proofs.refusal_line.Statement.{statement}
+use Rattle.lines.proofs.refusal_line.Tie as tie
+
+place-number-requires : tie.Need-place-number-requires
+place-number-requires c κs = search needs
+
+empty-requires : tie.Need-empty-requires
+empty-requires c κs = search needs
+
+slice-aggregate-with : tie.Need-slice-aggregate-with
+slice-aggregate-with c = search needs
+
+with-requires : tie.Need-with-requires
+with-requires c κs = search needs
+
+cast-with-number : tie.Need-cast-with-number
+cast-with-number c = search needs
+
+with-number-requires : tie.Need-with-number-requires
+with-number-requires c κs = search needs
+
+slice-aggregate-with-2 : tie.Need-slice-aggregate-with-2
+slice-aggregate-with-2 c = search needs
+
+with-requires-2 : tie.Need-with-requires-2
+with-requires-2 c κs = search needs
+
+cast-with-number-2 : tie.Need-cast-with-number-2
+cast-with-number-2 c = search needs
+
+with-number-requires-2 : tie.Need-with-number-requires-2
+with-number-requires-2 c κs = search needs
+
+slice-aggregate-with-3 : tie.Need-slice-aggregate-with-3
+slice-aggregate-with-3 c = search needs
+
+with-requires-3 : tie.Need-with-requires-3
+with-requires-3 c κs = search needs
+
+returns : tie.Need-returns
+unfolding refusalLine
+returns c =
+    record {
+      says =
+          followed (c .with3 .ensures)
+          (followed-by (c .before .before .with-number2 .ensures .appended) (ap decimalText (c .before .before .before .before .before .before .before .before .before .before .place-number .ensures))
+          (followed (c .before .before .before .with2 .ensures)
+          (followed (c .before .before .before .before .before .with-number .ensures .appended)
+          (followed (c .before .before .before .before .before .before .before .with .ensures)
+          (c .before .before .before .before .before .before .before .before .before .empty .ensures .0)))));
+      room = search needs;
+    }
+
+pub refusal-line-spec : {M : Type 1} → statement M
+refusal-line-spec =
+    tie.close
+    (tie.spec
+    place-number-requires
+    empty-requires
+    slice-aggregate-with
+    with-requires
+    cast-with-number
+    with-number-requires
+    slice-aggregate-with-2
+    with-requires-2
+    cast-with-number-2
+    with-number-requires-2
+    slice-aggregate-with-3
+    with-requires-3
+    returns)

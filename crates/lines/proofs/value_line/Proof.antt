@@ -1,0 +1,53 @@
+-- Piece by piece, what the definition joins.
+use Rattle.lines.proofs.Chain.{followed}
+use Rattle.lines.specs.Lines.{valueLine}
+use borrow.Author.Needs.{needs}
+use Rattle.lines.proofs.value_line.Statement.{statement}
+use Rattle.lines.proofs.value_line.Tie as tie
+
+empty-requires : tie.Need-empty-requires
+empty-requires c κs = search needs
+
+with-requires : tie.Need-with-requires
+with-requires c κs = search needs
+
+slice-aggregate-with : tie.Need-slice-aggregate-with
+slice-aggregate-with c = search needs
+
+with-requires-2 : tie.Need-with-requires-2
+with-requires-2 c κs = search needs
+
+with-number-requires : tie.Need-with-number-requires
+with-number-requires c κs = search needs
+
+slice-aggregate-with-2 : tie.Need-slice-aggregate-with-2
+slice-aggregate-with-2 c = search needs
+
+with-requires-3 : tie.Need-with-requires-3
+with-requires-3 c κs = search needs
+
+returns : tie.Need-returns
+unfolding valueLine
+returns c =
+    record {
+      says =
+          followed (c .with3 .ensures)
+          (followed (c .before .before .with-number .ensures .appended)
+          (followed (c .before .before .before .with2 .ensures)
+          (followed (c .before .before .before .before .before .with .ensures)
+          (c .before .before .before .before .before .before .empty .ensures .0))));
+      room = search needs;
+    }
+
+pub value-line-spec : {M : Type 1} → statement M
+value-line-spec =
+    tie.close
+    (tie.spec
+    empty-requires
+    with-requires
+    slice-aggregate-with
+    with-requires-2
+    with-number-requires
+    slice-aggregate-with-2
+    with-requires-3
+    returns)
