@@ -16,7 +16,7 @@ mp.dps = 50
 COUNT = int(sys.argv[1]) if len(sys.argv) > 1 else 4000
 random.seed(int(sys.argv[2]) if len(sys.argv) > 2 else 7)
 PROGRAM = os.path.join(
-    os.path.dirname(os.path.abspath(__file__)), "target", "release", "examples", "answers"
+    os.path.dirname(os.path.abspath(__file__)), "..", "target", "release", "examples", "answers"
 )
 MILLION = 10**6
 

@@ -20,6 +20,13 @@ const B: Cable = Cable {
     ..A
 };
 
+/// Its slow rate is above its fast one.
+const SWAPPED: Cable = Cable {
+    fast: 100,
+    slow: 101,
+    ..A
+};
+
 fn refused(number: u8, place: Place) -> Refusal {
     Refusal { number, place }
 }
@@ -122,12 +129,7 @@ fn small_examples() {
     assert_eq!(rise(&C1[..35]).unwrap_err(), refused(1, Place::None));
     let thin = Cable { d: 99, ..A };
     assert_eq!(share(&thin, 60).unwrap_err(), refused(2, Place::Field(1)));
-    let swapped = Cable {
-        fast: 100,
-        slow: 101,
-        ..A
-    };
-    assert_eq!(share(&swapped, 60).unwrap_err(), refused(3, Place::None));
+    assert_eq!(share(&SWAPPED, 60).unwrap_err(), refused(3, Place::None));
     let sheet_refusal = |start, first, records: &[(u16, u16, u16)]| {
         rise(&sheet(&A, start, first, records)).unwrap_err()
     };
@@ -224,24 +226,17 @@ fn order_of_refusals() {
     let thin_and_swapped = Cable {
         d: 99,
         rated: 0,
-        fast: 100,
-        slow: 101,
-        ..A
-    };
-    let swapped = Cable {
-        fast: 100,
-        slow: 101,
-        ..A
+        ..SWAPPED
     };
     let bad_hours = [4_001; 24];
     assert_eq!(
         share(&thin_and_swapped, 0).unwrap_err(),
         refused(2, Place::Field(1))
     );
-    assert_eq!(share(&swapped, 0).unwrap_err(), refused(3, Place::None));
+    assert_eq!(share(&SWAPPED, 0).unwrap_err(), refused(3, Place::None));
     assert_eq!(share(&A, 0).unwrap_err(), refused(9, Place::None));
     assert_eq!(
-        factor(&swapped, &bad_hours).unwrap_err(),
+        factor(&SWAPPED, &bad_hours).unwrap_err(),
         refused(3, Place::None)
     );
     assert_eq!(
@@ -249,29 +244,18 @@ fn order_of_refusals() {
         refused(10, Place::Hour(0))
     );
     assert_eq!(
-        current(&swapped, 201, 0, 0).unwrap_err(),
+        current(&SWAPPED, 201, 0, 0).unwrap_err(),
         refused(3, Place::None)
     );
-    assert_eq!(current(&A, 201, 0, 0).unwrap_err(), refused(9, Place::None));
-    assert_eq!(
-        current(&A, 201, 0, 1).unwrap_err(),
-        refused(12, Place::Input(1))
-    );
-    assert_eq!(
-        current(&A, 200, 0, 1).unwrap_err(),
-        refused(12, Place::Input(2))
-    );
-    assert_eq!(
-        current(&A, 200, 201, 1).unwrap_err(),
-        refused(12, Place::Input(2))
-    );
-    assert_eq!(
-        current(&A, 200, 200, 1).unwrap_err(),
-        refused(13, Place::None)
-    );
+    let told = |h, r, minutes| current(&A, h, r, minutes).unwrap_err();
+    assert_eq!(told(201, 0, 0), refused(9, Place::None));
+    assert_eq!(told(201, 0, 1), refused(12, Place::Input(1)));
+    assert_eq!(told(200, 0, 1), refused(12, Place::Input(2)));
+    assert_eq!(told(200, 201, 1), refused(12, Place::Input(2)));
+    assert_eq!(told(200, 200, 1), refused(13, Place::None));
     // Sheet: 2 and 3 come before 4, 4 before 5.
     assert_eq!(
-        rise(&sheet(&swapped, 4_001, 9, &[])).unwrap_err(),
+        rise(&sheet(&SWAPPED, 4_001, 9, &[])).unwrap_err(),
         refused(3, Place::None)
     );
     assert_eq!(

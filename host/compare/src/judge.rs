@@ -1,0 +1,92 @@
+//! The judge: whether an answer of the library agrees with the second program.
+
+use crate::distance::{self, require, Held};
+use crate::emergency::Emergency;
+use crate::history::History;
+use crate::rules;
+use kechmowad::{Bounds, Cable, Place, Refusal};
+use std::fmt::Debug;
+
+/// The second program's cable.
+fn theirs(cable: &Cable) -> second::Cable {
+    let &[d, l, s, k, w, fast, slow, rated] = cable.fields();
+    second::Cable {
+        d,
+        l,
+        s,
+        k,
+        w,
+        fast,
+        slow,
+        rated,
+    }
+}
+
+/// The second program's refusal in the library's words.
+fn ours(refusal: second::Refusal) -> Refusal {
+    let place = match refusal.place {
+        second::Place::None => Place::None,
+        second::Place::Field(n) => Place::Field(n),
+        second::Place::Record(n) => Place::Record(n),
+        second::Place::Hour(n) => Place::Hour(n),
+        second::Place::Input(n) => Place::Input(n),
+    };
+    Refusal {
+        number: refusal.number,
+        place,
+    }
+}
+
+/// Equal refusals agree, and two results agree where `within` says so.
+fn agree<L: Copy + Debug, S: Copy + Debug>(
+    library: Result<L, Refusal>,
+    second: Result<S, second::Refusal>,
+    within: impl FnOnce(L, S) -> Held,
+) -> Held {
+    let held = match (library, second) {
+        (Ok(said), Ok(exact)) => within(said, exact),
+        (Err(here), Err(there)) => require(here == ours(there), "equal refusals and places"),
+        _ => require(false, "both a result or both a refusal"),
+    };
+    held.map_err(|why| format!("library: {library:?}\nsecond:  {second:?}\n{why}"))
+}
+
+/// Judges a share.
+pub fn share(cable: &Cable, minutes: u32, said: Result<Bounds, Refusal>) -> Held {
+    agree(
+        said,
+        second::share(&theirs(cable), minutes),
+        distance::share,
+    )
+}
+
+/// Judges a rise.
+pub fn rise(sheet: &[u8], said: Result<Bounds, Refusal>) -> Held {
+    agree(said, second::rise(sheet), |pair, exact| {
+        let history = History::of(sheet);
+        let changes = history.changes();
+        require(changes == exact.changes, "one D, however it is summed")?;
+        let rated = history.cable.rated_current;
+        distance::rise(pair, exact.exact_millionths, rated, changes)?;
+        rules::rise(&history, pair)
+    })
+}
+
+/// Judges a factor.
+pub fn factor(cable: &Cable, hours: &[u16; 24], said: Result<u32, Refusal>) -> Held {
+    agree(said, second::factor(&theirs(cable), hours), |m, exact| {
+        distance::factor(m, exact.sum_millionths)?;
+        rules::factor(cable, hours, m)
+    })
+}
+
+/// Judges an emergency current.
+pub fn current(cable: &Cable, h: u32, r: u32, minutes: u32, said: Result<u32, Refusal>) -> Held {
+    let second = second::current(&theirs(cable), h, r, minutes);
+    agree(said, second, |i, exact| {
+        let rated = cable.rated_current;
+        let asked = Emergency { h, r, rated };
+        distance::current(i, &asked, exact)?;
+        rules::current(cable, &asked, minutes, i)
+    })
+}

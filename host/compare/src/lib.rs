@@ -1,0 +1,21 @@
+//! Holds the proved library against the second program, over inputs of every kind, and
+//! the built program `rise` against both and against the table of 1972.
+
+mod check;
+mod distance;
+mod emergency;
+mod history;
+mod input;
+pub mod judge;
+mod numbers;
+pub mod program;
+mod random;
+mod rules;
+mod run;
+mod sheets;
+pub mod table;
+
+pub use check::check;
+pub use input::Input;
+pub use random::Random;
+pub use run::{Run, Tally};

@@ -1,0 +1,113 @@
+//! The differential test's command line.
+
+use compare::{check, program, table, Input, Run, Tally};
+use std::ops::Range;
+use std::path::Path;
+use std::process::ExitCode;
+use std::time::{SystemTime, UNIX_EPOCH};
+
+const USAGE: &str = "\
+usage: compare [COUNT [SEED]]               library against second program
+       compare long                         the same, 10,000,000 inputs, seed from the clock
+       compare rise PROGRAM [COUNT [SEED]]  the same with sheets, through the program rise too
+       compare table PROGRAM                the table of 1972 through the program rise";
+
+/// What the gate runs, so that it is repeatable.
+const GATE_COUNT: u64 = 1_000_000;
+const GATE_SHEETS: u64 = 10_000;
+const GATE_SEED: u64 = 1972;
+const LONG_COUNT: u64 = 10_000_000;
+
+/// Inputs between two signs of life.
+const BLOCK: u64 = 1_000_000;
+
+/// From so many inputs on, a refusal that never came is a failure.
+const ENOUGH: u64 = 2_000;
+
+/// Asks so many inputs, prints the tally, and tells whether all agreed and each of the
+/// refusals came.
+fn run(run: &Run, count: u64, refusals: Range<usize>) -> bool {
+    println!("seed {}, {count} inputs", run.seed);
+    let mut tally = Tally::default();
+    for start in (0..count).step_by(BLOCK as usize) {
+        let end = count.min(start + BLOCK);
+        tally.join(run.over(start..end));
+        if count > BLOCK {
+            println!("{end} asked");
+        }
+    }
+    let missing = if count < ENOUGH {
+        Vec::new()
+    } else {
+        tally.missing(refusals)
+    };
+    if !missing.is_empty() {
+        println!("FAILED: these refusals never came: {missing:?}");
+    }
+    println!("{tally}");
+    tally.agreed() && missing.is_empty()
+}
+
+/// Numbers against the second program.
+fn against_second(count: u64, seed: u64) -> bool {
+    let asked = Run {
+        seed,
+        make: Input::any,
+        check: &check,
+    };
+    run(&asked, count, 1..14)
+}
+
+/// Sheets through the program; a sheet meets refusals 1 to 8.
+fn through_program(path: &str, count: u64, seed: u64) -> bool {
+    let asked = Run {
+        seed,
+        make: Input::any_rise,
+        check: &|input| program::check(Path::new(path), input),
+    };
+    run(&asked, count, 1..9)
+}
+
+fn clock() -> u64 {
+    let since = SystemTime::now().duration_since(UNIX_EPOCH);
+    since.expect("a clock after 1970").as_nanos() as u64
+}
+
+/// COUNT and SEED where they are given; nothing where they are no numbers.
+fn numbers(words: &[&str], count: u64) -> Option<(u64, u64)> {
+    match words {
+        [] => Some((count, GATE_SEED)),
+        [count] => Some((count.parse().ok()?, GATE_SEED)),
+        [count, seed] => Some((count.parse().ok()?, seed.parse().ok()?)),
+        _ => None,
+    }
+}
+
+/// Whether all agreed; nothing where the words are no command.
+fn command(words: &[&str]) -> Option<bool> {
+    match words {
+        ["long"] => Some(against_second(LONG_COUNT, clock())),
+        ["table", path] => Some(table::run(Path::new(path))),
+        ["rise", path, rest @ ..] => {
+            let (count, seed) = numbers(rest, GATE_SHEETS)?;
+            Some(through_program(path, count, seed))
+        }
+        rest => {
+            let (count, seed) = numbers(rest, GATE_COUNT)?;
+            Some(against_second(count, seed))
+        }
+    }
+}
+
+fn main() -> ExitCode {
+    let words: Vec<String> = std::env::args().skip(1).collect();
+    let words: Vec<&str> = words.iter().map(String::as_str).collect();
+    match command(&words) {
+        Some(true) => ExitCode::SUCCESS,
+        Some(false) => ExitCode::from(1),
+        None => {
+            eprintln!("{USAGE}");
+            ExitCode::from(2)
+        }
+    }
+}

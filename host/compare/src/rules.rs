@@ -1,0 +1,81 @@
+//! What document 01's rules give from the library's own shares. The pairs of the share
+//! are left open inside their 50 millionths; rise, factor and current follow from them
+//! to the last digit.
+
+use crate::distance::{require, Held, MOST_AMPERES, MOST_FACTOR};
+use crate::emergency::Emergency;
+use crate::history::History;
+use kechmowad::{share, Bounds, Cable};
+
+/// The library's own pair, which must be there inside an accepted calculation.
+fn own_share(cable: &Cable, minutes: u32) -> Bounds {
+    share(cable, minutes).expect("an accepted calculation asks for accepted shares")
+}
+
+/// The quotient rounded up.
+fn divided_up(number: i128, divisor: i128) -> i128 {
+    -(-number).div_euclid(divisor)
+}
+
+/// The rise of an accepted sheet is that of the rules.
+pub fn rise(history: &History, said: Bounds) -> Held {
+    let rated = i128::from(history.cable.rated_current);
+    let start = i128::from(history.start_squared) * 1_000_000;
+    let (mut low, mut high) = (start, start);
+    for &(minutes, change) in &history.steps {
+        let pair = own_share(&history.cable, minutes);
+        let ends = [pair.low, pair.high].map(|end| i128::from(change) * i128::from(end));
+        low += ends[0].min(ends[1]);
+        high += ends[0].max(ends[1]);
+    }
+    let low = low.div_euclid(rated * rated);
+    let high = divided_up(high, rated * rated);
+    require(
+        (i128::from(said.low), i128::from(said.high)) == (low, high),
+        &format!("{low} and {high} from the library's own shares"),
+    )
+}
+
+/// The rounded heating sum of an accepted cycle in millionths, gathered.
+fn heating_sum(cable: &Cable, hours: &[u16; 24]) -> i128 {
+    let squares = hours.map(|amperes| i128::from(amperes) * i128::from(amperes));
+    let highest = *squares.iter().max().expect("24 hours");
+    let reference = squares.iter().rposition(|&square| square == highest);
+    // Yi and μ, times 24·highest.
+    let y = |i: usize| 24 * squares[(reference.expect("it is there") + 24 - i) % 24];
+    let mean: i128 = squares.iter().sum();
+    let weights = [
+        y(0) - y(1),
+        y(1) - y(2),
+        y(2) - y(3),
+        y(3) - y(4),
+        y(4) - y(5),
+        y(5) - mean,
+    ];
+    let mut sum = mean * 1_000_000;
+    for (weight, hour) in weights.into_iter().zip(1..) {
+        let pair = own_share(cable, 60 * hour);
+        sum += weight * i128::from(if weight > 0 { pair.high } else { pair.low });
+    }
+    divided_up(sum, 24 * highest)
+}
+
+/// The factor of an accepted cycle is that of the rules.
+pub fn factor(cable: &Cable, hours: &[u16; 24], said: u32) -> Held {
+    let sum = heating_sum(cable, hours);
+    let fits = |m: u32| i128::from(m) * i128::from(m) * sum <= 1_000_000_000_000;
+    require(
+        fits(said) && (said == MOST_FACTOR || !fits(said + 1)),
+        &format!("the largest factor for the sum {sum} from the library's own shares"),
+    )
+}
+
+/// The current of an accepted emergency is that of the rules.
+pub fn current(cable: &Cable, asked: &Emergency, minutes: u32, said: u32) -> Held {
+    let high = own_share(cable, minutes).high;
+    let certified = |i: u32| asked.excess(i, i128::from(high), 1) <= 0;
+    require(
+        certified(said) && (said == MOST_AMPERES || !certified(said + 1)),
+        &format!("the largest certified ampere for the library's own high share {high}"),
+    )
+}

@@ -1,0 +1,125 @@
+//! The judge refuses what is wrong by a little: each answer of the library agrees, and
+//! none of those beside it does.
+
+use compare::judge;
+use kechmowad::{sheet, Bounds, Cable, Place, Refusal};
+
+/// Cable A of document 01.
+fn cable_a() -> Cable {
+    Cable::from([500, 1_000, 500, 600_000, 500_000, 1_000, 100, 400])
+}
+
+fn pair(low: i64, high: i64) -> Result<Bounds, Refusal> {
+    Ok(Bounds { low, high })
+}
+
+fn refused(number: u8, place: Place) -> Refusal {
+    Refusal { number, place }
+}
+
+/// Sees that the right answer agrees and that every wrong one is told.
+fn only<T: std::fmt::Debug + Copy>(
+    judged: impl Fn(Result<T, Refusal>) -> Result<(), String>,
+    right: Result<T, Refusal>,
+    wrong: &[Result<T, Refusal>],
+) {
+    assert_eq!(judged(right), Ok(()));
+    for &answer in wrong {
+        let told = judged(answer).expect_err("a wrong answer agreed");
+        assert!(told.contains("should be: "), "{answer:?}: {told}");
+        assert!(told.contains(&format!("library: {answer:?}")), "{told}");
+    }
+}
+
+#[test]
+fn a_share_beyond_an_end_or_51_wide() {
+    // The exact share is 340,185.87 (row S03 of data/reference.tsv).
+    let judged = |said| judge::share(&cable_a(), 60, said);
+    let own = kechmowad::share(&cable_a(), 60);
+    let wrong = [
+        pair(340_186, 340_186),
+        pair(340_185, 340_185),
+        pair(340_186, 340_185),
+        pair(340_135, 340_186),
+        pair(-1, 340_186),
+        Err(refused(9, Place::None)),
+    ];
+    only(judged, own, &wrong);
+    only(judged, pair(340_185, 340_186), &[]);
+    only(judged, pair(340_136, 340_186), &[]);
+}
+
+#[test]
+fn a_rise_beyond_an_end_or_beside_the_rules() {
+    // Up to 400 A at 60 minutes, with a falling step at 30 that ends at 200 A.
+    let sheet = sheet(&cable_a(), 0, 1, &[[60, 400, 2], [30, 200, 0]]);
+    let own = kechmowad::rise(&sheet);
+    let Bounds { low, high } = own.expect("an accepted sheet");
+    let wrong = [
+        pair(low - 1, high),
+        pair(low + 1, high),
+        pair(low, high - 1),
+        pair(low, high + 1),
+        pair(high, low),
+        pair(low - 100, high + 100),
+        Err(refused(8, Place::Record(2))),
+    ];
+    only(|said| judge::rise(&sheet, said), own, &wrong);
+}
+
+#[test]
+fn a_factor_beside_the_right_one() {
+    let even = [200; 24];
+    let judged = |said| judge::factor(&cable_a(), &even, said);
+    let wrong = [Ok(999), Ok(1_001), Ok(5_000), Ok(5_001), Ok(0)];
+    only(judged, Ok(1_000), &wrong);
+    // Any day, by the library's own answer.
+    let hours: [u16; 24] = std::array::from_fn(|hour| 40 * hour as u16 % 700);
+    let own = kechmowad::factor(&cable_a(), &hours);
+    let m = own.expect("an accepted day");
+    let told = Err(refused(11, Place::None));
+    only(
+        |said| judge::factor(&cable_a(), &hours, said),
+        own,
+        &[Ok(m - 1), Ok(m + 1), told],
+    );
+}
+
+#[test]
+fn a_current_beside_the_right_one() {
+    // The limit is met as it is: C5 and C6.
+    for (h, r, amperes) in [(100, 100, 400), (50, 25, 200)] {
+        let judged = |said| judge::current(&cable_a(), h, r, 60, said);
+        only(
+            judged,
+            Ok(amperes),
+            &[Ok(amperes - 1), Ok(amperes + 1), Ok(10_000)],
+        );
+    }
+    let own = kechmowad::current(&cable_a(), 75, 110, 90);
+    let i = own.expect("an accepted emergency");
+    let told = Err(refused(13, Place::None));
+    let judged = |said| judge::current(&cable_a(), 75, 110, 90, said);
+    only(judged, own, &[Ok(i - 1), Ok(i + 1), Ok(10_001), told]);
+}
+
+#[test]
+fn a_refusal_with_another_number_or_place() {
+    let thin = Cable {
+        diameter: 99,
+        ..cable_a()
+    };
+    let wrong = [
+        Err(refused(3, Place::Field(1))),
+        Err(refused(2, Place::Field(2))),
+        Err(refused(2, Place::Record(1))),
+        Err(refused(2, Place::None)),
+        pair(340_185, 340_186),
+    ];
+    let right = Err(refused(2, Place::Field(1)));
+    only(|said| judge::share(&thin, 60, said), right, &wrong);
+    let looping = sheet(&cable_a(), 300, 1, &[[30, 300, 1]]);
+    let right = Err(refused(8, Place::Record(1)));
+    let wrong = [pair(562_500, 562_500), Err(refused(8, Place::Record(2)))];
+    only(|said| judge::rise(&looping, said), right, &wrong);
+}

@@ -1,0 +1,83 @@
+//! A run: the same inputs for the same seed, and what it says where an answer disagrees.
+
+use compare::{check, program, Input, Random, Run};
+use kechmowad::{Bounds, Place, Refusal};
+
+#[test]
+fn a_seed_stands_for_its_inputs() {
+    let inputs = |seed: u64| -> Vec<Input> {
+        (0..200)
+            .map(|index| Input::any(&mut Random::new(seed, index)))
+            .collect()
+    };
+    assert_eq!(inputs(5), inputs(5));
+    assert_ne!(inputs(5), inputs(6));
+}
+
+#[test]
+fn a_disagreement_is_told_with_its_input() {
+    // A judge that finds every refused sheet wrong.
+    let fails = |input: &Input| {
+        let mut verdict = check(input);
+        if verdict.refused == Some(1) {
+            verdict.held = Err("should be: longer".to_string());
+        }
+        verdict
+    };
+    let run = Run {
+        seed: 3,
+        make: Input::any_rise,
+        check: &fails,
+    };
+    let tally = run.over(0..300);
+    assert!(!tally.agreed());
+    let text = tally.to_string();
+    assert!(text.contains("DISAGREEMENT\nseed 3, index "), "{text}");
+    assert!(
+        text.contains("rise of ") && text.contains("should be: longer"),
+        "{text}"
+    );
+    assert!(!text.ends_with(" 0 disagreements"), "{text}");
+}
+
+#[test]
+fn a_panic_is_a_disagreement() {
+    let run = Run {
+        seed: 3,
+        make: Input::any,
+        check: &|_| panic!("on purpose"),
+    };
+    assert!(!run.over(0..1).agreed());
+}
+
+#[test]
+fn a_refusal_that_never_came_is_missing() {
+    let run = Run {
+        seed: 3,
+        make: Input::any_rise,
+        check: &check,
+    };
+    // A sheet meets no refusal above 8.
+    assert_eq!(run.over(0..300).missing(9..14), [9, 10, 11, 12, 13]);
+}
+
+#[test]
+fn a_line_is_spelled_to_the_letter() {
+    let low = Ok(Bounds { low: -7, high: 9 });
+    assert!(program::spelled("rise -7 9\n", &low).is_ok());
+    for line in [
+        "rise -7 9",
+        "rise -7 10\n",
+        "rise -8 9\n",
+        "rise -7 9\n\n",
+        "refused 8 1\n",
+        "",
+    ] {
+        assert!(program::spelled(line, &low).is_err(), "{line:?}");
+    }
+    let told = |place| Err(Refusal { number: 8, place });
+    assert!(program::spelled("refused 8 1\n", &told(Place::Record(1))).is_ok());
+    assert!(program::spelled("refused 8 0\n", &told(Place::None)).is_ok());
+    assert!(program::spelled("refused 8 1\n", &told(Place::Record(2))).is_err());
+    assert!(program::spelled("refused 7 1\n", &told(Place::Record(1))).is_err());
+}

@@ -1,0 +1,93 @@
+/*
+ * The four calculations for cable A of document 01, and a refusal.
+ *
+ *     host/examples/run-c
+ */
+#include <inttypes.h>
+#include <stdio.h>
+
+#include "kechmowad.h"
+
+static const uint32_t cable[KECHMOWAD_CABLE_LENGTH] = {
+    [KECHMOWAD_DIAMETER] = 500,        /* 50 mm */
+    [KECHMOWAD_DEPTH] = 1000,          /* 1 m */
+    [KECHMOWAD_DIFFUSIVITY] = 500,     /* 0.5e-6 m2/s */
+    [KECHMOWAD_SURFACE] = 600000,      /* 0.6 of the conductor's steady rise */
+    [KECHMOWAD_FAST_WEIGHT] = 500000,  /* half of the attainment is fast */
+    [KECHMOWAD_FAST_RATE] = 1000,
+    [KECHMOWAD_SLOW_RATE] = 100,
+    [KECHMOWAD_RATED_CURRENT] = 400,
+};
+
+/* The same cable in a sheet's bytes, big-endian. */
+#define CABLE_BYTES                                                                      \
+    0x00, 0x00, 0x01, 0xF4, 0x00, 0x00, 0x03, 0xE8, 0x00, 0x00, 0x01, 0xF4, 0x00, 0x09, \
+    0x27, 0xC0, 0x00, 0x07, 0xA1, 0x20, 0x00, 0x00, 0x03, 0xE8, 0x00, 0x00, 0x00, 0x64, \
+    0x00, 0x00, 0x01, 0x90
+
+/* 300 A for ever, and steps to the same 300 A at 60 and 30 minutes before now. */
+static const uint8_t steady[] = {
+    CABLE_BYTES, 0x01, 0x2C, 0x00, 0x01, /* 300 A, first link 1 */
+    0x00, 0x3C, 0x01, 0x2C, 0x00, 0x02,  /* record 1: 60 minutes, 300 A, next 2 */
+    0x00, 0x1E, 0x01, 0x2C, 0x00, 0x00,  /* record 2: 30 minutes, 300 A, the end */
+};
+
+/* Record 1 leads to itself, so that the minutes do not fall. */
+static const uint8_t looping[] = {
+    CABLE_BYTES, 0x01, 0x2C, 0x00, 0x01, /* 300 A, first link 1 */
+    0x00, 0x1E, 0x01, 0x2C, 0x00, 0x01,  /* record 1: 30 minutes, 300 A, next 1 */
+};
+
+/* Prints the refusal, and says so, where an answer is one. */
+static int refused(const int64_t answer[])
+{
+    static const char *const kinds[] = {
+        [KECHMOWAD_NO_PLACE] = "no place", [KECHMOWAD_FIELD] = "field",
+        [KECHMOWAD_RECORD] = "record",     [KECHMOWAD_HOUR] = "hour",
+        [KECHMOWAD_INPUT] = "input",
+    };
+    if (answer[KECHMOWAD_REFUSAL] == 0)
+        return 0;
+    printf("refused %" PRId64 " at %s %" PRId64 "\n", answer[KECHMOWAD_REFUSAL],
+           kinds[answer[KECHMOWAD_PLACE_KIND]], answer[KECHMOWAD_PLACE]);
+    return 1;
+}
+
+static void print_pair(const char *name, const int64_t answer[])
+{
+    printf("%s: ", name);
+    if (!refused(answer))
+        printf("%" PRId64 " to %" PRId64 " millionths\n", answer[KECHMOWAD_LOW],
+               answer[KECHMOWAD_HIGH]);
+}
+
+static void print_value(const char *name, const int64_t answer[], const char *unit)
+{
+    printf("%s: ", name);
+    if (!refused(answer))
+        printf("%" PRId64 " %s\n", answer[KECHMOWAD_VALUE], unit);
+}
+
+int main(void)
+{
+    int64_t answer[KECHMOWAD_ANSWER_LENGTH];
+    uint16_t hours[24];
+
+    kechmowad_share(cable, 60, answer);
+    print_pair("share after 60 minutes", answer);
+
+    kechmowad_rise(steady, sizeof steady, answer);
+    print_pair("rise of the sheet", answer);
+
+    for (int hour = 0; hour < 24; hour++)
+        hours[hour] = 200;
+    kechmowad_factor(cable, hours, answer);
+    print_value("factor of an even day", answer, "thousandths");
+
+    kechmowad_current(cable, 100, 100, 60, answer);
+    print_value("emergency current", answer, "A");
+
+    kechmowad_rise(looping, sizeof looping, answer);
+    print_pair("looping sheet", answer);
+    return 0;
+}

@@ -1,0 +1,103 @@
+//! Document 01's cases C1 to C12 through the static library; what is expected stands there.
+
+use kechmowad::{current, factor, rise, share, sheet, Bounds, Cable, Place, Refusal};
+
+const A: Cable = Cable {
+    diameter: 500,
+    depth: 1_000,
+    diffusivity: 500,
+    surface: 600_000,
+    fast_weight: 500_000,
+    fast_rate: 1_000,
+    slow_rate: 100,
+    rated_current: 400,
+};
+
+const B: Cable = Cable {
+    surface: 0,
+    fast_rate: 100_000,
+    slow_rate: 100_000,
+    ..A
+};
+
+/// C1's and C2's rise.
+const STEADY: Result<Bounds, Refusal> = Ok(Bounds {
+    low: 562_500,
+    high: 562_500,
+});
+
+/// Minutes to stand for any allowed ones.
+const MINUTES: [u32; 6] = [1, 2, 60, 359, 1_440, 2_880];
+
+#[test]
+fn c1_and_c2_a_steady_load() {
+    let c1: [u32; 9] = [
+        0x000001F4,
+        0x000003E8,
+        0x000001F4,
+        0x000927C0,
+        0x0007A120,
+        0x000003E8,
+        0x00000064,
+        0x00000190,
+        0x012C_0000,
+    ];
+    let bytes: Vec<u8> = c1.iter().flat_map(|word| word.to_be_bytes()).collect();
+    assert_eq!(rise(&bytes), STEADY);
+    assert_eq!(sheet(&A, 300, 0, &[]), bytes);
+    assert_eq!(
+        rise(&sheet(&A, 300, 1, &[[60, 300, 2], [30, 300, 0]])),
+        STEADY
+    );
+}
+
+#[test]
+fn c3_and_c4_factors() {
+    assert_eq!(factor(&A, &[200; 24]), Ok(1_000));
+    for hour in 0..24 {
+        let mut hours = [0; 24];
+        hours[hour] = 400;
+        assert_eq!(factor(&B, &hours), Ok(999));
+    }
+}
+
+#[test]
+fn c5_to_c8_currents() {
+    let a_401 = Cable {
+        rated_current: 401,
+        ..A
+    };
+    for minutes in MINUTES {
+        assert_eq!(current(&A, 100, 100, minutes), Ok(400));
+        assert_eq!(current(&A, 50, 25, minutes), Ok(200));
+        let told = current(&A, 51, 25, minutes).unwrap_err();
+        assert_eq!((told.number, told.place), (13, Place::None));
+        assert_eq!(current(&a_401, 50, 25, minutes), Ok(200));
+    }
+}
+
+#[test]
+fn c9_and_c10_shares() {
+    let slow = Cable {
+        fast_rate: 1,
+        slow_rate: 1,
+        ..B
+    };
+    for (cable, below, above) in [(B, 997_521, 997_522), (slow, 59, 60)] {
+        let Bounds { low, high } = share(&cable, 1).unwrap();
+        assert!(0 <= low && low <= below && above <= high);
+        assert!(high <= 1_000_000 && high - low <= 50);
+    }
+}
+
+#[test]
+fn c11_and_c12_sheets() {
+    let told = rise(&sheet(&A, 300, 1, &[[30, 300, 1]])).unwrap_err();
+    assert_eq!((told.number, told.place), (8, Place::Record(1)));
+    let most = sheet(&A, 300, 0, &[[0; 3]; 48]);
+    assert_eq!(most.len(), 324);
+    assert_eq!(rise(&most), STEADY);
+    let more = sheet(&A, 300, 0, &[[0; 3]; 49]);
+    assert_eq!(more.len(), 330);
+    assert_eq!(rise(&more).unwrap_err().number, 1);
+}
