@@ -1,7 +1,7 @@
 -- Laws of decimal text: the equations that it is known by, that io writes it, its length, and its sign.
 use mathlib.Core.Path.{_≡_, refl, ap, sym, _∙_}
 use mathlib.Core.Bool.{true, false}
-use mathlib.Core.List.{List, [], _∷_, _++_}
+use mathlib.Core.List.{[], _∷_, _++_}
 use Prim.Native.Nat.{ℕ, zero, suc, _+_, _*_, _/_, _%_, _^_, _≤_, _<_}
 use native.Mathlib.Numerals.{sub-one}
 use native.Mathlib.Nat.{pow-suc, pow-le-pow-right, div-eq-of-lt, mod-eq-of-lt}

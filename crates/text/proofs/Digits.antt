@@ -1,8 +1,8 @@
 -- Laws of texts of digits: a text is read byte by byte, with the number held at the most after each.
 use mathlib.Core.Path.{_≡_, refl, ap, sym, _∙_}
 use mathlib.Core.Bool.{Bool, true, false, cond, and-eq-true-iff}
-use mathlib.Core.List.{List, [], _∷_, _++_}
-use Prim.Native.Nat.{ℕ, suc, _+_, _-_, _*_, _≤_, _<_, min}
+use mathlib.Core.List.{List, [], _∷_}
+use Prim.Native.Nat.{ℕ, _+_, _≤_, _<_, min}
 use native.Mathlib.Numerals.{add-one}
 use native.Mathlib.Nat.{min-eq-left}
 use native.Mathlib.Omega.{arith}
@@ -16,6 +16,7 @@ use Rattle.text.specs.declared.Spelled.the-variants.{Value, NotDigits}
 use Rattle.text.specs.declared.Number.{Number}
 use Rattle.text.specs.declared.Number.the-variants.{Whole, NotWhole}
 
+-- so that a digit less '0' is not below 0
 pub digit-from : (b : ℕ) → isDigit b ≡ true → zeroDigit ≤ b
 digit-from b e = leb-true zeroDigit b (and-eq-true-iff (leb zeroDigit b) (leb b nineDigit) .0 e .0)
 
@@ -74,7 +75,7 @@ module _ {s : List ℕ} {most n i : ℕ} (p : Passed s most n i) where
       let is : min (value s) most ≡ n = sym (p .number) ∙ ap (λ t. min (followedBy n t) most) none ∙ min-eq-left (p .small) in
       rw (yes, is)
 
--- ---- what a caller of `number_of` needs
+-- ---- the number that is answered
 
 abbrev pub asNumber : Spelled → Number
 asNumber (Value n) = Whole n
@@ -88,6 +89,7 @@ number-is-spelled s most = go (digitsOnly s)
     go true = refl
     go false = refl
 
+-- whatever the text
 pub at-most : (s : List ℕ) (most : ℕ) {n : ℕ} → numberOf s most ≡ Whole n → n ≤ most
 unfolding numberOf
 at-most s most {n} e = go (digitsOnly s) e

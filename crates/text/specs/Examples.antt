@@ -1,6 +1,6 @@
 -- Worked examples of numbers read and written. Each text is given above its bytes.
 use mathlib.Core.Path.{_≡_, refl}
-use mathlib.Core.Bool.{true, false}
+use mathlib.Core.Bool.{false}
 use mathlib.Core.List.{[], _∷_}
 use lib.IntN.{pos, negsuc}
 use Rattle.text.specs.Reading.{allDigits, followedBy, numberOf, signedOf, sameBytes}
@@ -73,7 +73,8 @@ unfolding signedOf allDigits
 reads-a-sign-alone = refl
 
 -- "999999999999999999", of 18 digits
-reads-18-digits : signedOf (57 ∷ 57 ∷ 57 ∷ 57 ∷ 57 ∷ 57 ∷ 57 ∷ 57 ∷ 57 ∷ 57 ∷ 57 ∷ 57 ∷ 57 ∷ 57 ∷ 57 ∷ 57 ∷ 57 ∷ 57 ∷ []) ≡ Integer (pos 999999999999999999)
+reads-18-digits :
+    signedOf (57 ∷ 57 ∷ 57 ∷ 57 ∷ 57 ∷ 57 ∷ 57 ∷ 57 ∷ 57 ∷ 57 ∷ 57 ∷ 57 ∷ 57 ∷ 57 ∷ 57 ∷ 57 ∷ 57 ∷ 57 ∷ []) ≡ Integer (pos 999999999999999999)
 unfolding signedOf allDigits followedBy
 reads-18-digits = refl
 
@@ -97,7 +98,9 @@ unfolding decimalText leading
 writes-10 = refl
 
 -- the greatest number of 64 bits, "18446744073709551615"
-writes-64-bits : decimalText 18446744073709551615 ≡ 49 ∷ 56 ∷ 52 ∷ 52 ∷ 54 ∷ 55 ∷ 52 ∷ 52 ∷ 48 ∷ 55 ∷ 51 ∷ 55 ∷ 48 ∷ 57 ∷ 53 ∷ 53 ∷ 49 ∷ 54 ∷ 49 ∷ 53 ∷ []
+writes-64-bits :
+    decimalText 18446744073709551615
+    ≡ 49 ∷ 56 ∷ 52 ∷ 52 ∷ 54 ∷ 55 ∷ 52 ∷ 52 ∷ 48 ∷ 55 ∷ 51 ∷ 55 ∷ 48 ∷ 57 ∷ 53 ∷ 53 ∷ 49 ∷ 54 ∷ 49 ∷ 53 ∷ []
 unfolding decimalText leading
 writes-64-bits = refl
 
