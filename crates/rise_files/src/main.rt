@@ -1,20 +1,18 @@
 // Prints the rise of each sheet that an argument names, after the name. A name that four numbers follow asks for a range: LOW_MIN LOW_MAX HIGH_MIN
 // HIGH_MAX. For it `inside` is printed where low and high are in their ranges, and `outside` where not.
-mod number;
-
 ghost use Prim.Native.Nat.{_≤_, _<_};
 use bounds::Bounds;
 use history::RiseAnswer;
 use libc::STDOUT_FILENO;
-use number::Word;
 use report::Outcome;
+use text::Signed;
 
 const MOST_WORDS: usize = 4096;
 
 fn main() {
     let words = word_count();
     for k in 1..words {
-        if let Word::Other = word_at(k) {
+        if let Signed::NotInteger = word_at(k) {
             report_sheet(k);
         }
     }
@@ -32,10 +30,10 @@ fn word_count() -> usize
     }
 }
 
-fn word_at(k: usize) -> Word {
+fn word_at(k: usize) -> Signed {
     let mut text = io::buffer();
     let length = os::arg(k, &mut text);
-    number::word_of(&text[..length])
+    text::signed_of(&text[..length])
 }
 
 // The line of the sheet that argument k names.
@@ -52,7 +50,7 @@ fn report_sheet(k: usize)
         return;
     };
     libc::close(descriptor);
-    let Word::Number(low_min) = word_at(k + 1) else {
+    let Signed::Integer(low_min) = word_at(k + 1) else {
         report::print_rise(answer);
         return;
     };
@@ -79,14 +77,14 @@ fn print_inside(pair: Bounds, low_min: i64, k: usize)
 
 // Whether argument k is a number, and n is not above it.
 fn at_most(n: i64, k: usize) -> bool {
-    let Word::Number(most) = word_at(k) else {
+    let Signed::Integer(most) = word_at(k) else {
         return false;
     };
     n <= most
 }
 
 fn at_least(n: i64, k: usize) -> bool {
-    let Word::Number(least) = word_at(k) else {
+    let Signed::Integer(least) = word_at(k) else {
         return false;
     };
     least <= n

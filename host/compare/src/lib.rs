@@ -1,5 +1,6 @@
 //! Holds the proved library against the second program, over inputs of every kind, and
-//! the built program `rise` against both and against the table of 1972.
+//! the built program `rise` against both and against the table of 1972, and the built
+//! programs against the commands that documents show.
 
 mod check;
 mod distance;
@@ -13,6 +14,7 @@ mod random;
 mod rules;
 mod run;
 mod sheets;
+pub mod shown;
 pub mod table;
 
 pub use check::check;

@@ -1,6 +1,6 @@
 //! The differential test's command line.
 
-use compare::{check, program, table, Input, Run, Tally};
+use compare::{check, program, shown, table, Input, Run, Tally};
 use std::ops::Range;
 use std::path::Path;
 use std::process::ExitCode;
@@ -10,7 +10,8 @@ const USAGE: &str = "\
 usage: compare [COUNT [SEED]]               library against second program
        compare long                         the same, 10,000,000 inputs, seed from the clock
        compare rise PROGRAM [COUNT [SEED]]  the same with sheets, through the program rise too
-       compare table PROGRAM                the table of 1972 through the program rise";
+       compare table PROGRAM                the table of 1972 through the program rise
+       compare shown ROOT PROGRAMS FILE..   the commands that files of ROOT show, run with PROGRAMS";
 
 /// What the gate runs, so that it is repeatable.
 const GATE_COUNT: u64 = 1_000_000;
@@ -87,6 +88,9 @@ fn numbers(words: &[&str], count: u64) -> Option<(u64, u64)> {
 fn command(words: &[&str]) -> Option<bool> {
     match words {
         ["long"] => Some(against_second(LONG_COUNT, clock())),
+        ["shown", root, programs, files @ ..] => {
+            Some(shown::run(Path::new(root), Path::new(programs), files))
+        }
         ["table", path] => Some(table::run(Path::new(path))),
         ["rise", path, rest @ ..] => {
             let (count, seed) = numbers(rest, GATE_SHEETS)?;

@@ -1,9 +1,7 @@
 -- Piece by piece, what the definition joins; an end of the pair is seen as it is.
+use Rattle.text.proofs.Lines.{then, from-empty}
 use mir.Syntax.{w64}
-use Rattle.text.specs.Writing.{signedText}
 use mir.Facts.{toZ-ofZ}
-use mathlib.Core.Path.{ap}
-use Rattle.lines.proofs.Chain.{followed, followed-by}
 use Rattle.lines.specs.Lines.{pairLine}
 use borrow.Author.Needs.{needs}
 use Rattle.lines.proofs.pair_line.Statement.{statement}
@@ -45,13 +43,16 @@ returns c =
     let pair = c .before .before .before .before .before .before .before .before .before .before .before .before .before .args .pair in
     record {
       says =
-          followed (c .with4 .ensures)
-          (followed-by (c .before .before .with-signed2 .ensures .appended) (ap signedText (toZ-ofZ {w = w64} {z = pair .high} (search needs)))
-          (followed (c .before .before .before .before .with3 .ensures)
-          (followed-by (c .before .before .before .before .before .before .with-signed .ensures .appended) (ap signedText (toZ-ofZ {w = w64} {z = pair .low} (search needs)))
-          (followed (c .before .before .before .before .before .before .before .before .with2 .ensures)
-          (followed (c .before .before .before .before .before .before .before .before .before .before .with .ensures)
-          (c .before .before .before .before .before .before .before .before .before .before .before .empty .ensures .0))))));
+          from-empty (c .before .before .before .before .before .before .before .before .before .before .before .empty .ensures .0)
+          (then
+          (then
+          (then
+          (then
+          (then (c .before .before .before .before .before .before .before .before .before .before .with .ensures) (c .before .before .before .before .before .before .before .before .with2 .ensures))
+          (rw (toZ-ofZ {w = w64} {z = pair .low} (search needs)) at (c .before .before .before .before .before .before .with-signed .ensures .appended)))
+          (c .before .before .before .before .with3 .ensures))
+          (rw (toZ-ofZ {w = w64} {z = pair .high} (search needs)) at (c .before .before .with-signed2 .ensures .appended)))
+          (c .with4 .ensures));
       room = search needs;
     }
 

@@ -1,7 +1,5 @@
 -- Piece by piece, what the definition joins.
-use Rattle.text.specs.Writing.{decimalText}
-use mathlib.Core.Path.{ap}
-use Rattle.lines.proofs.Chain.{followed, followed-by}
+use Rattle.text.proofs.Lines.{then, from-empty}
 use Rattle.lines.specs.Lines.{refusalLine}
 use borrow.Author.Needs.{needs}
 use Rattle.lines.proofs.refusal_line.Statement.{statement}
@@ -48,12 +46,14 @@ unfolding refusalLine
 returns c =
     record {
       says =
-          followed (c .with3 .ensures)
-          (followed-by (c .before .before .with-number2 .ensures .appended) (ap decimalText (c .before .before .before .before .before .before .before .before .before .before .place-number .ensures))
-          (followed (c .before .before .before .with2 .ensures)
-          (followed (c .before .before .before .before .before .with-number .ensures .appended)
-          (followed (c .before .before .before .before .before .before .before .with .ensures)
-          (c .before .before .before .before .before .before .before .before .before .empty .ensures .0)))));
+          from-empty (c .before .before .before .before .before .before .before .before .before .empty .ensures .0)
+          (then
+          (then
+          (then
+          (then (c .before .before .before .before .before .before .before .with .ensures) (c .before .before .before .before .before .with-number .ensures .appended))
+          (c .before .before .before .with2 .ensures))
+          (rw (c .before .before .before .before .before .before .before .before .before .before .place-number .ensures) at (c .before .before .with-number2 .ensures .appended)))
+          (c .with3 .ensures));
       room = search needs;
     }
 

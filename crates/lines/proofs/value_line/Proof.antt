@@ -1,5 +1,5 @@
 -- Piece by piece, what the definition joins.
-use Rattle.lines.proofs.Chain.{followed}
+use Rattle.text.proofs.Lines.{then, from-empty}
 use Rattle.lines.specs.Lines.{valueLine}
 use borrow.Author.Needs.{needs}
 use Rattle.lines.proofs.value_line.Statement.{statement}
@@ -31,11 +31,12 @@ unfolding valueLine
 returns c =
     record {
       says =
-          followed (c .with3 .ensures)
-          (followed (c .before .before .with-number .ensures .appended)
-          (followed (c .before .before .before .with2 .ensures)
-          (followed (c .before .before .before .before .before .with .ensures)
-          (c .before .before .before .before .before .before .empty .ensures .0))));
+          from-empty (c .before .before .before .before .before .before .empty .ensures .0)
+          (then
+          (then
+          (then (c .before .before .before .before .before .with .ensures) (c .before .before .before .with2 .ensures))
+          (c .before .before .with-number .ensures .appended))
+          (c .with3 .ensures));
       room = search needs;
     }
 

@@ -1,0 +1,32 @@
+-- The names of the commands, in ASCII.
+use mathlib.Core.Bool.{cond}
+use mathlib.Core.List.{List, [], _∷_}
+use Prim.Native.Nat.{ℕ}
+use Rattle.text.specs.Reading.{sameBytes}
+use Rattle.rating.specs.declared.command.Command.{Command}
+use Rattle.rating.specs.declared.command.Command.the-variants.{Share, Factor, Current, Rise, Explain, Unknown}
+
+-- "share", "factor", "current", "rise", "explain"
+abbrev pub shareWord : List ℕ
+shareWord = 115 ∷ 104 ∷ 97 ∷ 114 ∷ 101 ∷ []
+
+abbrev pub factorWord : List ℕ
+factorWord = 102 ∷ 97 ∷ 99 ∷ 116 ∷ 111 ∷ 114 ∷ []
+
+abbrev pub currentWord : List ℕ
+currentWord = 99 ∷ 117 ∷ 114 ∷ 114 ∷ 101 ∷ 110 ∷ 116 ∷ []
+
+abbrev pub riseWord : List ℕ
+riseWord = 114 ∷ 105 ∷ 115 ∷ 101 ∷ []
+
+abbrev pub explainWord : List ℕ
+explainWord = 101 ∷ 120 ∷ 112 ∷ 108 ∷ 97 ∷ 105 ∷ 110 ∷ []
+
+unfoldable pub commandOf : List ℕ → Command
+commandOf word =
+    cond (sameBytes word shareWord) Share
+    (cond (sameBytes word factorWord) Factor
+    (cond (sameBytes word currentWord) Current
+    (cond (sameBytes word riseWord) Rise
+    (cond (sameBytes word explainWord) Explain
+    Unknown))))

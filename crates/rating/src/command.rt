@@ -1,0 +1,40 @@
+// The command, by its name.
+ghost use mathlib.Core.Path.{_≡_};
+ghost use Rattle.rating.specs.Names.{commandOf};
+
+pub enum Command {
+    Share,
+    Factor,
+    Current,
+    Rise,
+    Explain,
+    Unknown,
+}
+
+// The command that the first word names. A word longer than every name comes as none, which is no name either.
+pub fn given() -> Command {
+    let mut word = [0u8; 8];
+    let length = os::arg(1, &mut word);
+    command_of(&word[..length])
+}
+
+fn command_of(word: &[u8]) -> Command
+    ensures { λ r. ⌜ r ≡ commandOf (now (word .entry)) ⌝ }
+{
+    if text::same(word, b"share") {
+        return Command::Share;
+    }
+    if text::same(word, b"factor") {
+        return Command::Factor;
+    }
+    if text::same(word, b"current") {
+        return Command::Current;
+    }
+    if text::same(word, b"rise") {
+        return Command::Rise;
+    }
+    if text::same(word, b"explain") {
+        return Command::Explain;
+    }
+    Command::Unknown
+}

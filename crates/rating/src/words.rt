@@ -1,0 +1,57 @@
+// The whole numbers among the program's words.
+ghost use Prim.Native.Nat.{_≤_};
+use text::Number;
+
+pub const CABLE_FIELDS: usize = 8;
+
+// The program's own name and the command stand before the first number.
+const FIRST: usize = 2;
+
+const MOST: u32 = 4294967295;
+
+// Why numbers are not all there: another count of words than wanted, or the first, counted from 1, that is no whole number.
+pub enum Fault {
+    None,
+    Count,
+    NotWhole(usize),
+}
+
+// Room for a cable and 24 hours.
+pub struct Numbers {
+    pub values: [u32; 32],
+    pub fault: Fault,
+}
+
+// The wanted numbers, from all the words after the command.
+pub fn read(words: usize, wanted: usize) -> Numbers
+    requires { ⌜ wanted ≤ 32 ⌝ }
+{
+    let mut values = [0u32; 32];
+    if words != FIRST + wanted {
+        return Numbers {
+            values,
+            fault: Fault::Count,
+        };
+    }
+    for k in 0..wanted {
+        let word = word_at(FIRST + k);
+        let Number::Whole(value) = word else {
+            return Numbers {
+                values,
+                fault: Fault::NotWhole(k + 1),
+            };
+        };
+        values[k] = value;
+    }
+    Numbers {
+        values,
+        fault: Fault::None,
+    }
+}
+
+// Word k as a whole number. The system hands over no word that does not fit here.
+pub fn word_at(k: usize) -> Number {
+    let mut word = [0u8; 131072];
+    let length = os::arg(k, &mut word);
+    text::number_of(&word[..length], MOST)
+}
