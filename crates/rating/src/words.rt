@@ -1,5 +1,6 @@
 // The whole numbers among the program's words.
 ghost use Prim.Native.Nat.{_≤_};
+ghost use Rattle.rating.specs.Words.{OfWord, ReadOf};
 use text::Number;
 
 pub const CABLE_FIELDS: usize = 8;
@@ -25,6 +26,7 @@ pub struct Numbers {
 // The wanted numbers, from all the words after the command.
 pub fn read(words: usize, wanted: usize) -> Numbers
     requires { ⌜ wanted ≤ 32 ⌝ }
+    ensures { λ r. ⌜ ReadOf wanted r ⌝ }
 {
     let mut values = [0u32; 32];
     if words != FIRST + wanted {
@@ -50,7 +52,9 @@ pub fn read(words: usize, wanted: usize) -> Numbers
 }
 
 // Word k as a whole number. The system hands over no word that does not fit here.
-pub fn word_at(k: usize) -> Number {
+pub fn word_at(k: usize) -> Number
+    ensures { λ r. ⌜ OfWord r ⌝ }
+{
     let mut word = [0u8; 131072];
     let length = os::arg(k, &mut word);
     text::number_of(&word[..length], MOST)
