@@ -6,7 +6,7 @@ use native.Mathlib.Nat.{div-mul-le-self, lt-div-mul-add, mul-le-mul, mul-le-mul-
 use lib.Dec.{T}
 use lib.IntN.{ℤ, pos, negsuc, negℤ, _+ℤ_, _*ℤ_, *ℤ-comm}
 use lib.Signed.{_≤ℤ_, nonNeg}
-use Rattle.numbers.specs.Integer.{up, dn, lesser}
+use Rattle.numbers.specs.Integer.{up, dn}
 use Rattle.numbers.specs.Rounding.{floorZ, ceilZ}
 use Rattle.numbers.proofs.Integers.{le-lin, lin-le, add-lin, neg-up, neg-dn, mul-lin, ≤ℤ-trans, lesser-left, lesser-right, greater-left, greater-right, lesser-both, product-over, product-under, *ℤ-mono-pos, *ℤ-assoc}
 use Rattle.numbers.proofs.Rounding.{floor-low, floor-high, ceil-low, ceil-high}

@@ -1,5 +1,5 @@
 -- The answer of a cyclic factor in each of its ways out, and the shares that are given at whole hours.
-use mathlib.Core.Path.{_≡_, refl, sym, ap, _∙_}
+use mathlib.Core.Path.{_≡_, _∙_}
 use mathlib.Core.Bool.{true, false}
 use mathlib.Core.List.{List}
 use Prim.Native.Nat.{ℕ, suc, _+_, _*_, _≤_, _<_}
@@ -11,13 +11,11 @@ use lib.IntN.{ℤ, pos, negsuc, natAbs}
 use lib.Signed.{_≤ℤ_}
 use Rattle.numbers.proofs.Integers.{le-lin}
 use Rattle.bounds.specs.Promises.{Sized}
-use Rattle.bounds.specs.declared.Bounds.{Bounds}
 use Rattle.cable.specs.Checks.{checked}
 use Rattle.cable.specs.declared.Cable.{Cable}
 use Rattle.cable.specs.declared.Refusal.{Refusal}
 use Rattle.cable.specs.declared.CableCheck.the-variants as C
 use Rattle.cable.proofs.Acceptance.{accepted-is}
-use Rattle.share.specs.Pair.{sharePair}
 use Rattle.share.specs.Answer.{mostMinutes, shareAnswer}
 use Rattle.share.specs.declared.ShareAnswer.the-variants as S
 use Rattle.share.proofs.Promises.{share-pair-range}

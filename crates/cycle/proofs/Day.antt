@@ -1,6 +1,6 @@
 -- The hours of a day: the first above 4,000 A, the latest of the highest, the sum of the squares, each one hour more at a time, as a loop goes; and
 -- no load is above the highest.
-use mathlib.Core.Path.{_≡_, refl, sym, ap, _∙_}
+use mathlib.Core.Path.{_≡_, refl}
 use mathlib.Core.Bool.{Bool, true, false, cond, _&&_}
 use mathlib.Core.List.{List, [], _∷_}
 use mathlib.Core.Logic.{_⊎_, inl, inr, ⊎-elim}

@@ -1,5 +1,5 @@
 -- The test of a factor falls, for a heating sum of either sign, and the sum that it is asked of is small enough.
-use mathlib.Core.Path.{_≡_, refl, sym, ap, _∙_}
+use mathlib.Core.Path.{_≡_, refl}
 use mathlib.Core.Bool.{true, false}
 use mathlib.Core.List.{List}
 use mathlib.Core.Logic.{⊎-elim}
@@ -13,11 +13,11 @@ use Rattle.numbers.specs.Largest.{Falling}
 use Rattle.numbers.specs.Rounding.{floorZ, ceilZ}
 use Rattle.numbers.proofs.Integers.{one-part, le-lin, lin-le, neg-up, neg-dn, size-lin, negℤ-*ℤ}
 use Rattle.numbers.proofs.Rounding.{floor-mono, floor-exact, ceil-mono, ceil-exact}
-use Rattle.bounds.specs.Operations.{timesB, dividedB}
-use Rattle.bounds.specs.Promises.{Sized, largest, TimesRoom}
+use Rattle.bounds.specs.Operations.{dividedB}
+use Rattle.bounds.specs.Promises.{Sized, TimesRoom}
 use Rattle.bounds.specs.declared.Bounds.{Bounds}
 use Rattle.bounds.proofs.Sizes.{sized-more, times-sized}
-use Rattle.cycle.specs.Heating.{heatingHours, commonDivisor, gatheredBounds, heatingBounds}
+use Rattle.cycle.specs.Heating.{heatingHours, commonDivisor, heatingBounds}
 use Rattle.cycle.specs.Factor.{mostFactor, mostHeating, allowed}
 use Rattle.cycle.specs.Asked.{mostSum}
 use Rattle.cycle.proofs.Heating.{gathered-sized}

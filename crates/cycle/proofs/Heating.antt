@@ -4,15 +4,14 @@ use mathlib.Core.Path.{_≡_, refl, sym, ap, _∙_}
 use mathlib.Core.Bool.{Bool, true, false, cond}
 use mathlib.Core.List.{List}
 use mathlib.Core.Logic.{⊎-elim}
-use Prim.Native.Nat.{ℕ, zero, suc, _+_, _-_, _*_, _%_, _≤_, _<_}
+use Prim.Native.Nat.{ℕ, zero, suc, _+_, _-_, _*_, _≤_, _<_}
 use native.Mathlib.Nat.{mul-le-mul, mul-le-mul-left, mul-le-mul-right, mod-lt, one-mul, le-refl}
 use native.Mathlib.Numerals.{add-one}
 use native.Mathlib.Omega.{arith}
-use borrow.Author.Tests.{lt-ltb, le-ltb}
 use lib.Dec.{ltb}
 use lib.IntN.{ℤ, pos, negℤ, natAbs, _+ℤ_, _-ℤ_, _*ℤ_, *ℤ-comm}
 use Rattle.numbers.specs.Integer.{up, dn}
-use Rattle.numbers.proofs.Integers.{one-part, lin-eq, lin-le, add-lin, neg-up, neg-dn, mul-lin, size-lin, *ℤ-distrib, negℤ-*ℤ}
+use Rattle.numbers.proofs.Integers.{one-part, lin-eq, add-lin, neg-up, neg-dn, size-lin, *ℤ-distrib, negℤ-*ℤ}
 use Rattle.bounds.specs.Operations.{pointB, addB, negB, mulB}
 use Rattle.bounds.specs.Promises.{In, Sized, largest}
 use Rattle.bounds.specs.declared.Bounds.{Bounds}

@@ -3,7 +3,7 @@ ghost use mathlib.Core.Path.{_≡_};
 ghost use Prim.Native.Nat.{_+_, _*_, _≤_, _<_};
 ghost use Rattle.bounds.specs.Operations.{pointB};
 ghost use Rattle.bounds.specs.Promises.{Sized};
-ghost use Rattle.cycle.specs.Day.{dayHours, load, latestHighest, earlier, squaredLoads};
+ghost use Rattle.cycle.specs.Day.{dayHours, latestHighest, squaredLoads};
 ghost use Rattle.cycle.specs.Heating.{heatingHours, commonDivisor, relativeLoad, gatheredLoad, heatingSum};
 ghost use Rattle.cycle.specs.Factor.{mostFactor, allowed, largestFactor};
 ghost use Rattle.cycle.specs.Answer.{firstAbove, hourPair, FactorSaid};

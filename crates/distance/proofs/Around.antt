@@ -1,6 +1,5 @@
 -- What is around a sum, a product with an integer and a quotient by a whole number, from what is around their parts. This carries the promises of
 -- the share to the rise and to the heating sum: a positive constant takes the low share for the low end, a negative one the high share.
-use mathlib.Core.Path.{refl}
 use mathlib.Core.List.{[], _∷_}
 use mathlib.Core.Logic.{_⊎_, inl, inr}
 use Prim.Native.Nat.{ℕ, _+_, _*_, _≤_, _<_}

@@ -1,5 +1,4 @@
 -- A limit above an exact value, through a sum with an integer and a quotient by a whole number, in both directions.
-use mathlib.Core.Path.{refl}
 use mathlib.Core.Bool.{true}
 use mathlib.Core.List.{[], _∷_}
 use Prim.Native.Nat.{ℕ, _+_, _*_, _<_}

@@ -2,4 +2,3 @@ pub mod Certifying
 pub mod Answers
 pub mod Distance
 pub mod Said
-pub mod Limit

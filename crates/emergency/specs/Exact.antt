@@ -1,10 +1,8 @@
 -- Document 01, 'What the distances say', the current: the certifying rule with an exact share, in millionths, for g.
-use mathlib.Core.List.{[], _∷_}
 use Prim.Native.Nat.{ℕ, _*_, _<_}
 use lib.IntN.{pos, sucℤ}
 use Rattle.numbers.specs.Signed.{ofInt}
 use Rattle.exact.specs.Value.{Value, AtMost, AtLeast, integer, _+ᵥ_, _·ᵥ_}
-use Rattle.history.specs.Exact.{exactRise}
 use Rattle.emergency.specs.Certifying.{loadChange, roomToLimit, mostCurrent}
 
 -- the rule's left side
@@ -16,8 +14,3 @@ pub record CurrentDistance (width rated h r : ℕ) (share : Value) (i : ℕ) : T
   pub keeps : AtLeast (ofInt (roomToLimit rated h r)) (exactAdded rated h share i)
   -- "If i is below 10,000, each larger whole ampere breaks it with the exact G in millionths plus 50 for g: the left side is at least 1 above the right."
   pub larger-breaks : i < mostCurrent → (j : ℕ) → i < j → AtMost (ofInt (sucℤ (roomToLimit rated h r))) (exactAdded rated h (share +ᵥ integer (pos width)) j)
-
--- The rise, 'The load sheet', from a preload of h percent of the rated current by the one step to i. A percent of a whole number of amperes is a whole number
--- of hundredths, so the three currents are in hundredths of an ampere: the formula asks for nothing but their ratios.
-abbrev pub riseFromPreload : ℕ → ℕ → Value → ℕ → Value
-riseFromPreload rated h share i = exactRise (λ minutes. share) (h * rated) (100 * rated) (record { number = 1; minutes = 0; amperes = 100 * i } ∷ [])

@@ -1,7 +1,7 @@
 -- The walk along a chain: what a turn adds to the sum, the answer of the whole sheet is that of the rest, at every record.
-use mathlib.Core.Path.{_≡_, refl, sym, ap, ap₂, _∙_}
+use mathlib.Core.Path.{_≡_, refl, sym, ap, _∙_}
 use mathlib.Core.Bool.{false}
-use mathlib.Core.List.{List, [], _∷_}
+use mathlib.Core.List.{List, _∷_}
 use Prim.Native.Nat.{ℕ, suc, _*_}
 use native.Mathlib.Omega.{arith}
 use lib.IntN.{pos, +ℤ-assoc, +ℤ-idr}
@@ -17,7 +17,7 @@ use Rattle.share.specs.Answer.{mostMinutes, shareAnswer}
 use Rattle.share.specs.declared.ShareAnswer.the-variants as S
 use Rattle.sheet.specs.Header.{checkedHeader}
 use Rattle.sheet.specs.Records.{beforeFirst, recordAt, checkedRecord}
-use Rattle.sheet.specs.Chain.{Step, Chain, steps, refused, stepOf, withStep, chainFrom, chainOf}
+use Rattle.sheet.specs.Chain.{Step, Chain, steps, refused, stepOf, withStep, chainFrom}
 use Rattle.sheet.specs.declared.Header.{Header}
 use Rattle.sheet.specs.declared.HeaderCheck.the-variants as H
 use Rattle.sheet.specs.declared.LoadRecord.{LoadRecord}
@@ -27,7 +27,7 @@ use Rattle.sheet.proofs.HeaderChecks.{accepted-header}
 use Rattle.sheet.proofs.RecordChecks.{header-held}
 use Rattle.sheet.proofs.ChainTurns.{chain-ends, chain-refused, chain-goes-on}
 use Rattle.history.specs.Rise.{stepHeat, startHeat, sumOf, riseOf}
-use Rattle.history.specs.Answer.{afterHeader, afterChain, riseAnswer, Begins}
+use Rattle.history.specs.Answer.{afterChain, riseAnswer, Begins}
 use Rattle.history.specs.declared.RiseAnswer.{RiseAnswer}
 use Rattle.history.specs.declared.RiseAnswer.the-variants.{Rise, Refused}
 

@@ -1,5 +1,4 @@
 // An answer's line, as document 01's 'Cases' has the program `rise` print it: a word and numbers in decimal.
-ghost use mathlib.Core.Path.{_≡_};
 ghost use Prim.Native.Nat.{_≤_};
 ghost use lib.ListN.{length};
 ghost use Rattle.lines.specs.Lines.{Says, pairLine, valueLine, refusalLine};

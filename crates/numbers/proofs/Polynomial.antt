@@ -2,7 +2,7 @@
 use Prim.Native.Nat.{ℕ, zero, suc, _+_, _*_, _^_, _≤_, _<_, compare, Ordering, Ordering·lt, Ordering·eq, Ordering·gt, zero-le}
 use mathlib.Core.Path.{_≡_, refl, sym, _∙_, ap, ap₂, subst₂}
 use mathlib.Core.List.{List, [], _∷_}
-use native.Mathlib.Nat.{le-of-mul-le-mul-left, le-antisymm, le-of-eq, le-trans, add-le-add, mul-le-mul-left, mul-le-mul-right, add-le-add-iff-right, add-assoc, add-comm, add-left-comm, mul-assoc, mul-comm, mul-one, one-mul, mul-zero, zero-mul, add-zero, zero-add, mul-add, add-mul, mul-mul-mul-comm, pow-zero, pow-succ'}
+use native.Mathlib.Nat.{le-of-mul-le-mul-left, le-antisymm, le-of-eq, le-trans, add-le-add, mul-le-mul-left, mul-le-mul-right, add-assoc, add-left-comm, mul-one, one-mul, mul-zero, zero-mul, add-zero, zero-add, mul-add, add-mul, mul-mul-mul-comm, pow-zero, pow-succ'}
 use lib.Pow.{pow-add}
 use mathlib.Core.Bool.{Bool, true, false}
 use lib.Dec.{T, isEq, leb, leb→le, eqb→eq}

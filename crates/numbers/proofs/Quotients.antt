@@ -1,6 +1,6 @@
 -- Quotients as products with a reciprocal, and quotients of sums.
-use Prim.Native.Nat.{ℕ, _<_}
-use mathlib.Core.List.{List, [], _∷_}
+use Prim.Native.Nat.{_<_}
+use mathlib.Core.List.{[], _∷_}
 use Rattle.numbers.specs.Fraction.{Frac, _≼_, _≈_, 1F, _⊕_, _⊗_, _÷_}
 use Rattle.numbers.proofs.Fractions.{refl≼, trans≼, ÷-times, ÷≼, ≼÷, ÷≼of}
 use Rattle.numbers.proofs.FractionProver.{qv, qn, _+'_, _*'_, q-from, eq}

@@ -1,14 +1,14 @@
 -- The laws of signed fractions: order, sums, negation; the lesser and the greater; products by sign, and the hull of four products.
-use Prim.Native.Nat.{ℕ, _<_}
-use mathlib.Core.List.{List, [], _∷_}
+use Prim.Native.Nat.{_<_}
+use mathlib.Core.List.{[], _∷_}
 use mathlib.Core.Bool.{Bool, true, false, not}
 use mathlib.Core.Logic.{_⊎_, inl, inr}
 use lib.Dec.{T}
-use Rattle.numbers.specs.Fraction.{Frac, _≼_, _≺_, _⊕_, _⊗_, _∸_, 0F}
+use Rattle.numbers.specs.Fraction.{Frac, _≼_, _≺_, _⊕_, _⊗_, 0F}
 use Rattle.numbers.specs.Signed.{Signed, _≼ₛ_, _≺ₛ_, _≈ₛ_, _≼ₛ?_, ofFrac, amount, negS, addS, mulS, maxS, minS, least4, most4}
 use Rattle.numbers.proofs.Fractions.{refl≼, add≼, mul≼, cancel⊕, test-is, test-not, either}
 use Rattle.numbers.proofs.FractionProver.{qv, qn, qf, _+'_, _*'_, q-le, q-from, le}
-use Rattle.numbers.proofs.Subtraction.{less-on, less-least, less-exact, rearrange}
+use Rattle.numbers.proofs.Subtraction.{less-on, less-least, rearrange}
 use Rattle.numbers.proofs.Strict.{below-not, below-of, le-strict, strict-le, within}
 
 pub refl≼ₛ : (a : Signed) → a ≼ₛ a

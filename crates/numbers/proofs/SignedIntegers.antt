@@ -1,14 +1,14 @@
 -- Integers as signed fractions: their order, sums, products and quotients.
 use mathlib.Core.Path.{_≡_}
 use mathlib.Core.Logic.{_⊎_, inl, inr}
-use Prim.Native.Nat.{ℕ, _+_, _*_, _≤_, _<_}
+use Prim.Native.Nat.{_+_, _*_, _≤_}
 use native.Mathlib.Omega.{arith}
-use lib.IntN.{ℤ, pos, negsuc, negℤ, _+ℤ_, _*ℤ_}
+use lib.IntN.{ℤ, pos, negsuc, _+ℤ_, _*ℤ_}
 use lib.Signed.{_≤ℤ_}
-use Rattle.numbers.specs.Fraction.{Frac, _≼_, _⊕_, _⊗_, whole, 0F}
-use Rattle.numbers.specs.Signed.{Signed, _≼ₛ_, _≈ₛ_, ofInt, addS, negS, mulS}
+use Rattle.numbers.specs.Fraction.{_≼_, _⊕_, _⊗_, whole}
+use Rattle.numbers.specs.Signed.{_≼ₛ_, _≈ₛ_, ofInt, addS, mulS}
 use Rattle.numbers.specs.Integer.{up, dn}
-use Rattle.numbers.proofs.Integers.{le-lin, lin-le, add-lin, mul-lin, neg-up, neg-dn}
+use Rattle.numbers.proofs.Integers.{le-lin, lin-le, add-lin, mul-lin}
 
 pub ofInt≼ : {y z : ℤ} → y ≤ℤ z → ofInt y ≼ₛ ofInt z
 ofInt≼ {y} {z} h = record { le = go (le-lin h) }

@@ -1,9 +1,9 @@
 -- Strictly below; parts of a fraction above 0; and what is within every e above 0 of being at most b is at most b.
-use Prim.Native.Nat.{ℕ, suc, _+_, _*_, _≤_, _<_}
-use mathlib.Core.List.{List, [], _∷_}
+use Prim.Native.Nat.{suc, _+_, _*_, _≤_, _<_}
+use mathlib.Core.List.{[], _∷_}
 use mathlib.Core.Bool.{Bool, true, false, not}
 use lib.Dec.{T, leb, leb→le, nleb→lt}
-use native.Mathlib.Nat.{mul-pos, mul-le-mul-right, lt-of-mul-lt-mul-right, zero-lt-suc}
+use native.Mathlib.Nat.{mul-pos, mul-le-mul-right, zero-lt-suc}
 use native.Mathlib.Omega.{arith}
 use Rattle.numbers.specs.Fraction.{Frac, _≼_, _≺_, _≼?_, _per_, _⊕_, _⊗_, _÷_, 0F, 1F}
 use Rattle.numbers.proofs.Fractions.{trans≼, cancel⊕, test-is, ÷-times, ÷-above, above}

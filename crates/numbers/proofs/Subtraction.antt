@@ -1,6 +1,6 @@
 -- Cut-off subtraction of fractions by what it is for: a ∸ b is the least c with a ≤ b + c.
 use Prim.Native.Nat.{ℕ, _+_, _*_, _-_, _≤_, _<_}
-use mathlib.Core.List.{List, [], _∷_}
+use mathlib.Core.List.{[], _∷_}
 use mathlib.Core.Bool.{Bool, true, false, not}
 use lib.Dec.{T, leb, leb→le, nleb→lt}
 use native.Mathlib.Nat.{mul-pos, mul-le-mul-right}

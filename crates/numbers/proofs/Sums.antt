@@ -1,6 +1,6 @@
 -- The laws of sums of fractions.
 use Prim.Native.Nat.{ℕ, zero, suc, _+_, _<_}
-use mathlib.Core.List.{List, [], _∷_}
+use mathlib.Core.List.{[], _∷_}
 use native.Mathlib.Nat.{add-zero, add-suc}
 use native.Mathlib.Omega.{arith}
 use Rattle.numbers.specs.Fraction.{Frac, _≼_, _≈_, _⊕_, _⊗_, whole, 0F, sum}

@@ -1,5 +1,4 @@
 -- Fractions of either sign, each the difference of two fractions not below 0.
-use Prim.Native.Nat.{ℕ}
 use mathlib.Core.Bool.{Bool, true, false}
 use lib.IntN.{ℤ}
 use Rattle.numbers.specs.Fraction.{Frac, _≼_, _≺_, _≼?_, _⊕_, _⊗_, _∸_, whole, 0F}

@@ -1,5 +1,5 @@
 -- The answer of a share in each of its ways out, and what is known of the cable in use where its pair is given.
-use mathlib.Core.Path.{_≡_, refl, sym, ap, _∙_}
+use mathlib.Core.Path.{_≡_, sym, ap, _∙_}
 use mathlib.Core.Bool.{true, false}
 use Prim.Native.Nat.{ℕ}
 use Rattle.exact.specs.Share.{Accepted}
@@ -11,7 +11,7 @@ use Rattle.cable.specs.declared.Cable.{Cable}
 use Rattle.cable.specs.declared.Refusal.{Refusal}
 use Rattle.cable.specs.declared.CableCheck.the-variants as C
 use Rattle.cable.proofs.Acceptance.{passed-within, accepted-in-range, accepted-is}
-use Rattle.share.specs.Pair.{pairInUse, sharePair, share-pair-is}
+use Rattle.share.specs.Pair.{pairInUse, share-pair-is}
 use Rattle.share.specs.Answer.{mostMinutes, refused9, shareAnswer}
 use Rattle.share.specs.declared.ShareAnswer.the-variants.{Pair, Refused}
 

@@ -1,7 +1,7 @@
 -- The promises of the share's pair: it encloses the exact share, is narrow, and is a function of its cable and minutes alone.
 use mathlib.Core.Path.{_≡_, refl, sym, _∙_}
 use mathlib.Core.Bool.{Bool, true, false, cond}
-use Prim.Native.Nat.{ℕ, suc, _+_, _≤_}
+use Prim.Native.Nat.{ℕ, _+_, _≤_}
 use native.Mathlib.Nat.{le-refl}
 use native.Mathlib.Omega.{arith}
 use lib.IntN.{pos, _+ℤ_}
@@ -30,7 +30,7 @@ use Rattle.model.specs.Width.{innerWidth}
 use Rattle.model.specs.ShareEnclosed.{ShareEnclosed}
 use Rattle.model.proofs.Cable.{share-at-most-million}
 use Rattle.model.proofs.Enclosure.Share.{share-held, share-enclosed}
-use Rattle.share.specs.Pair.{pairInUse, sharePair, share-pair-is, pair-in-use-is}
+use Rattle.share.specs.Pair.{sharePair, share-pair-is, pair-in-use-is}
 use Rattle.share.specs.Promises.{shareWidth, exactShare, Millionths, Promised}
 use Rattle.share.specs.Answer.{mostMinutes, refused9, shareAnswer, afterChecks, ShareSaid}
 use Rattle.share.specs.declared.ShareAnswer.{ShareAnswer}

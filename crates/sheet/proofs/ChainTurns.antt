@@ -1,5 +1,5 @@
 -- One turn of the walk along a chain: it ends, is refused, or goes on with a step more. Minutes fall, so that the count of turns never runs out.
-use mathlib.Core.Path.{_≡_, refl, sym, ap, _∙_}
+use mathlib.Core.Path.{_≡_, refl, ap, _∙_}
 use mathlib.Core.Bool.{cond}
 use mathlib.Core.List.{List, []}
 use Prim.Native.Nat.{ℕ, zero, suc, _<_}

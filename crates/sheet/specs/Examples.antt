@@ -10,7 +10,7 @@ use Rattle.sheet.specs.BigEndian.{bigEndian}
 use Rattle.sheet.specs.Layout.{wrongLength}
 use Rattle.sheet.specs.Header.{cableOf, checkedHeader}
 use Rattle.sheet.specs.Records.{recordOf, recordAt, checkedRecord}
-use Rattle.sheet.specs.Chain.{Step, Chain, steps, refused, chainFrom, chainOf}
+use Rattle.sheet.specs.Chain.{Step, steps, refused, chainFrom, chainOf}
 use Rattle.sheet.specs.declared.HeaderCheck.{HeaderCheck}
 use Rattle.sheet.specs.declared.HeaderCheck.the-variants.{Accepted, Refused}
 

@@ -1,5 +1,5 @@
 -- Document 01, 'The load sheet' and 'When the desk is told no': a record, and refusals 5 to 8 in their order.
-use mathlib.Core.Bool.{Bool, true, false, cond, _||_}
+use mathlib.Core.Bool.{Bool, true, false, cond}
 use mathlib.Core.List.{List}
 use Prim.Native.Nat.{ℕ, suc, _+_}
 use lib.Dec.{eqb, leb, ltb}

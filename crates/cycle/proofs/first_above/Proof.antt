@@ -1,6 +1,6 @@
 -- The loop stops at the first hour above 4,000 A, or past the last. Assumes nothing.
-use mathlib.Core.Path.{_≡_, refl, sym, ap, _∙_}
-use Prim.Native.Nat.{_-_, _<_, _≤_}
+use mathlib.Core.Path.{_≡_, refl, sym, _∙_}
+use Prim.Native.Nat.{_-_, _≤_}
 use native.Mathlib.Omega.{arith}
 use borrow.Kind.Array.{good-length, eInt}
 use lib.ListN.{length, drop}

@@ -1,6 +1,6 @@
 -- `share_rows::narrow`: 50 more than a low from 0 to 1,000,000 fits.
 use mathlib.Core.Path.{_≡_}
-use mathlib.Core.Bool.{true, false}
+use mathlib.Core.Bool.{false}
 use Prim.Native.Nat.{ℕ}
 use native.Mathlib.Omega.{arith}
 use borrow.Author.Needs.{needs}

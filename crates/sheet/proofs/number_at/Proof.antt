@@ -1,6 +1,6 @@
 -- The loop's invariant: `number` is that of the bytes passed. The measure is what is left of the width.
 use mathlib.Core.Path.{_≡_, refl, ap, _∙_}
-use Prim.Native.Nat.{ℕ, _+_, _-_, _^_, _<_, _≤_}
+use Prim.Native.Nat.{_+_, _-_, _^_, _<_, _≤_}
 use native.Mathlib.Omega.{arith}
 use Rattle.sheet.specs.BigEndian.{bigEndian}
 use Rattle.sheet.proofs.BigEndian.{one-byte-more, below-wider}

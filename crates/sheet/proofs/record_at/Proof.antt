@@ -6,7 +6,6 @@ use native.Mathlib.Omega.{arith}
 use borrow.Author.Needs.{needs}
 use lib.ListN.{length}
 use Rattle.sheet.specs.Layout.{wrongLength, recordCount}
-use Rattle.sheet.specs.Records.{beforeFirst}
 use Rattle.sheet.specs.declared.RecordRead.the-variants.{Held}
 use Rattle.sheet.proofs.RightLength.{right-length}
 use Rattle.sheet.proofs.RecordChecks.{no-records, above-count, header-held, record-held}

@@ -1,6 +1,5 @@
 -- As in the plain walk, the loop's invariant is `AtRecord`: at each record of the chain the answer of the rest is the sheet's. The measure is the record's minutes.
-use mathlib.Core.Path.{_≡_, sym, ap, _∙_}
-use native.Mathlib.Omega.{arith}
+use mathlib.Core.Path.{_≡_, sym, _∙_}
 use borrow.Author.Needs.{needs}
 use Rattle.share.specs.Answer.{shareAnswer}
 use Rattle.share.specs.declared.ShareAnswer.the-variants as S

@@ -4,7 +4,7 @@ use mathlib.Core.Path.{_≡_, refl, sym, ap, subst}
 use Prim.Native.Nat.{ℕ, _+_, _*_, _<_}
 use native.Mathlib.Nat.{mul-le-mul}
 use native.Mathlib.Omega.{arith}
-use lib.IntN.{ℤ, pos, negℤ, _+ℤ_, _-ℤ_, _*ℤ_}
+use lib.IntN.{pos, negℤ, _+ℤ_, _-ℤ_, _*ℤ_}
 use Rattle.numbers.specs.Fraction.{whole}
 use Rattle.numbers.specs.Signed.{ofInt}
 use Rattle.numbers.proofs.SignedFractions.{refl≼ₛ}
@@ -14,8 +14,9 @@ use Rattle.exact.proofs.Values.{constant⊴, add⊴, mul⊴}
 use Rattle.distance.proofs.Limits.{limit-moved, limit-unmoved, limit-kept, limit-unkept, limit-divided, limit-undivided}
 use Rattle.history.specs.Rise.{changeOf}
 use Rattle.history.specs.Exact.{exactSum, exactRise}
 use Rattle.emergency.specs.Certifying.{loadChange, roomToLimit}
-use Rattle.emergency.specs.Exact.{exactAdded, riseFromPreload}
+use Rattle.emergency.specs.Exact.{exactAdded}
+use Rattle.limit.specs.Preload.{riseFromPreload}
 
 module _ (rated h r i : ℕ) (zr : 0 < rated) (share : Value) (sound : share ⊴ share) where
   -- in hundredths of an ampere
