@@ -1,7 +1,6 @@
-/* The share in unproved C, by the same fixed point, as a baseline for bench/run: 200,000 shares of one case. */
-#include <stdint.h>
-#include <stdio.h>
-#include <stdlib.h>
+/* Times the share in unproved C, by the same fixed point, as a baseline. A line for each share among the cases: name, microseconds, the middle of its pair
+   and half its width. */
+#include "bench.h"
 
 typedef uint64_t u64;
 typedef struct { u64 low, high; } Pair;
@@ -100,14 +99,25 @@ __attribute__((noinline)) static Pair share(u64 d, u64 l, u64 s, u64 k, u64 w, u
     return (Pair){ least(xl * al / (1000 * ONE), MILLION), least(xh * ah / (1000 * ONE) + 1, MILLION) };
 }
 
+static Pair answer;
+
+static void work(const Case *c)
+{
+    const uint32_t *f = c->cable;
+    answer = share(f[D], f[L], f[S], f[K], f[W], f[FAST], f[SLOW], c->minutes);
+    /* Keeps every call: the compiler may not take inputs or answer for the same as before. */
+    __asm__ volatile("" : : "r"(c), "r"(&answer) : "memory");
+}
+
 int main(void)
 {
-    int c = getchar(), worst = c == '2';
-    u64 ordered = 0, minutes = c == '0' ? 60 : c == '1' ? 360 : 2880;
-    for (u64 i = 0; i < 200000; i++) {
-        Pair p = share(worst ? 100 : 500, worst ? 5000 : 1000, worst ? 2000 : 500, 600000 + i, 500000, 1000, 100, minutes);
-        ordered += p.low <= p.high;
+    Case c;
+    while (read_case(&c)) {
+        if (!asks(&c, "share"))
+            continue;
+        double us = microseconds(work, &c, RUN_SECONDS), low = (double)answer.low, high = (double)answer.high;
+        printf("%s %.4f %.1f %.1f\n", c.name, us, (low + high) / 2, (high - low) / 2);
+        fflush(stdout);
     }
-    printf("ordered %llu\n", (unsigned long long)ordered);
     return 0;
 }

@@ -1,0 +1,64 @@
+# The tables of bench/run, from the lines of its programs: of proved.txt case, microseconds, low, high, answer; of the others case, microseconds, value, radius.
+# Fails where a value lies outside the proved low and high by more than its radius, or where a program leaves out a case that it should answer.
+
+{ p = FILENAME; sub(/.*\//, "", p); sub(/\.txt$/, "", p); seen[p] = 1 }
+p == "proved" && !($1 in answer) { names[++count] = $1; low[$1] = $3; high[$1] = $4; answer[$1] = $5 }
+p != "proved" { value[p, $1] = $3; radius[p, $1] = $4 }
+# The best of all rounds.
+!((p, $1) in us) || $2 < us[p, $1] { us[p, $1] = $2; how[p, $1] = $5 }
+
+function time(p, n) { return (p, n) in us ? sprintf("%.2f", us[p, n]) : "-" }
+function times_proved(p, n) { return us[p, n] / us["proved", n] }
+function ratio(p, n) { return (p, n) in us ? sprintf("%.2f", times_proved(p, n)) : "-" }
+function said(p, n) { return (p, n) in value ? sprintf("%.3f", value[p, n]) : "-" }
+
+function hold(p, n) {
+    if (!((p, n) in value)) {
+        # share.c answers shares only, and Arb may be missing altogether.
+        if (p == "share_c" || !seen[p]) return
+        print "DISAGREE: " p " gives no answer to " n
+        failed = 1
+    } else if (value[p, n] + radius[p, n] < low[n] || value[p, n] - radius[p, n] > high[n]) {
+        print "DISAGREE: " p " gives " value[p, n] " for " n ", not between " low[n] " and " high[n]
+        failed = 1
+    }
+}
+
+function times(    i, n) {
+    printf "%-12s %10s %10s %10s %10s %10s %10s %10s\n", "", "proved", "plain C", "f64", "Arb", "C/proved", "f64/proved", "Arb/proved"
+    for (i = 1; i <= count; i++) {
+        n = names[i]
+        printf "%-12s %10s %10s %10s %10s %10s %10s %10s\n", n, time("proved", n), time("share_c", n), time("f64", n), time("arb", n), \
+            ratio("share_c", n), ratio("f64", n), ratio("arb", n)
+    }
+}
+
+function answers(    i, n) {
+    printf "%-12s %18s %12s %12s %14s %14s  %s\n", "", "proved answer", "so at least", "at most", "f64", "Arb", "Arb's E1 and bits"
+    for (i = 1; i <= count; i++) {
+        n = names[i]
+        printf "%-12s %18s %12.3f %12.3f %14s %14s  %s\n", n, answer[n], low[n], high[n], said("f64", n), said("arb", n), how["arb", n]
+    }
+}
+
+function goals(    i, n, least) {
+    for (i = 1; i <= count; i++) {
+        n = names[i]
+        if (n == "rise-48") printf "Goal, a rise of 48 steps under 300 us: %s (%s)\n", (us["proved", n] < 300 ? "met" : "MISSED"), time("proved", n)
+        if (!(("arb", n) in us)) continue
+        if (least == "" || times_proved("arb", n) < least) least = times_proved("arb", n)
+    }
+    if (least != "") printf "Goal, every case at least 5 times faster than Arb: %s (least %.2f)\n", (least >= 5 ? "met" : "MISSED"), least
+}
+
+END {
+    print "Microseconds a call, and how many times as long as the proved program the others take:"
+    times()
+    print "\nWhat they answer, in millionths (of a factor its heating sum T, of a current its share G):"
+    answers()
+    print ""
+    goals()
+    for (i = 1; i <= count; i++) { hold("share_c", names[i]); hold("f64", names[i]); hold("arb", names[i]) }
+    if (count == 0) { print "no case was answered"; failed = 1 }
+    exit failed
+}
