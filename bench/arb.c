@@ -1,6 +1,7 @@
 /* Times Arb on the cases. A line for each: name, microseconds, value, radius, and how (the way to E1 and the bits at the start). The value is the exact
    one in millionths (share and rise; the heating sum T of a factor; the share G of a current), with a radius below one half.
-   Arb is given what favours it: each case is timed by the quickest of its ways to E1 and of several starting precisions. */
+   `plain`: document 01's formula as it stands, from 64 bits on, by the quickest of Arb's functions for E1. `fitted`: with what favours Arb on these cases,
+   the quickest of all ways to E1 and of several starting precisions, and no integral worked out that is too small to matter. */
 #if __has_include(<flint/arb.h>)
 #include <flint/acb.h>
 #include <flint/acb_hypgeom.h>
@@ -55,13 +56,17 @@ static const struct { const char *name; Integral *integral; } ways[] = {
 };
 static const slong starts[] = { 24, 28, 32, 40, 53, 64 };
 
+/* The functions and the start that a plain call takes. */
+enum { PLAIN_WAYS = 3, PLAIN_START = 5 };
+
 static Integral *integral;
 static slong start;
+static int plain;
 
-/* E1 of above/below. From 0.7 times the bits on it is under 2^-bits, which stands for it. */
+/* E1 of above/below. From 0.7 times the bits on it is under 2^-bits, which stands for it where Arb is fitted. */
 static void tail(arb_t e1, ulong above, ulong below, slong bits)
 {
-    if (10 * above >= 7 * (ulong)bits * below) {
+    if (!plain && 10 * above >= 7 * (ulong)bits * below) {
         arb_zero(e1);
         arb_add_error_2exp_si(e1, -bits);
         return;
@@ -183,8 +188,9 @@ static const char *choose_quickest(const Case *c, int print)
     double best = 0;
     size_t best_way = 0;
     slong best_start = 0;
-    for (size_t w = 0; w < sizeof ways / sizeof *ways; w++)
-        for (size_t s = 0; s < sizeof starts / sizeof *starts; s++) {
+    size_t all_ways = plain ? PLAIN_WAYS : sizeof ways / sizeof *ways;
+    for (size_t w = 0; w < all_ways; w++)
+        for (size_t s = plain ? PLAIN_START : 0; s < sizeof starts / sizeof *starts; s++) {
             integral = ways[w].integral;
             start = starts[s];
             double next = microseconds(work, c, RUN_SECONDS / 16);
@@ -211,13 +217,15 @@ static void init(void)
     acb_init(ei);
 }
 
-/* With the word `version` it prints that and times nothing; with `ways` it prints what each way and start takes. */
+/* The word `version` prints that and times nothing; `ways` prints what each way and start takes where Arb is fitted. */
 int main(int count, char **words)
 {
     Case c;
-    int print = count > 1 && strcmp(words[1], "ways") == 0;
-    if (count > 1 && !print)
+    const char *mode = count > 1 ? words[1] : "plain";
+    int print = strcmp(mode, "ways") == 0;
+    if (strcmp(mode, "version") == 0)
         return puts(VERSION) < 0;
+    plain = strcmp(mode, "plain") == 0;
     init();
     while (read_case(&c)) {
         choose_question(&c);

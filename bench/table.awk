@@ -25,30 +25,33 @@ function hold(p, n) {
 }
 
 function times(    i, n) {
-    printf "%-12s %10s %10s %10s %10s %10s %10s %10s\n", "", "proved", "plain C", "f64", "Arb", "C/proved", "f64/proved", "Arb/proved"
+    printf "%-12s %9s %9s %9s %9s %9s %9s %9s %9s %9s\n", "", "proved", "plain C", "f64", "Arb", "Arb fit", "C/pr", "f64/pr", "Arb/pr", "fit/pr"
     for (i = 1; i <= count; i++) {
         n = names[i]
-        printf "%-12s %10s %10s %10s %10s %10s %10s %10s\n", n, time("proved", n), time("share_c", n), time("f64", n), time("arb", n), \
-            ratio("share_c", n), ratio("f64", n), ratio("arb", n)
+        printf "%-12s %9s %9s %9s %9s %9s %9s %9s %9s %9s\n", n, time("proved", n), time("share_c", n), time("f64", n), time("arb", n), time("fitted", n), \
+            ratio("share_c", n), ratio("f64", n), ratio("arb", n), ratio("fitted", n)
     }
 }
 
 function answers(    i, n) {
-    printf "%-12s %18s %12s %12s %14s %14s  %s\n", "", "proved answer", "so at least", "at most", "f64", "Arb", "Arb's E1 and bits"
+    printf "%-12s %18s %12s %12s %12s %12s  %s\n", "", "proved answer", "so at least", "at most", "f64", "Arb", "E1 and first bits: Arb, Arb fit"
     for (i = 1; i <= count; i++) {
         n = names[i]
-        printf "%-12s %18s %12.3f %12.3f %14s %14s  %s\n", n, answer[n], low[n], high[n], said("f64", n), said("arb", n), how["arb", n]
+        printf "%-12s %18s %12.3f %12.3f %12s %12s  %s %s\n", n, answer[n], low[n], high[n], said("f64", n), said("arb", n), how["arb", n], how["fitted", n]
     }
 }
 
-function goals(    i, n, least) {
-    for (i = 1; i <= count; i++) {
-        n = names[i]
-        if (n == "rise-48") printf "Goal, a rise of 48 steps under 300 us: %s (%s)\n", (us["proved", n] < 300 ? "met" : "MISSED"), time("proved", n)
-        if (!(("arb", n) in us)) continue
-        if (least == "" || times_proved("arb", n) < least) least = times_proved("arb", n)
-    }
-    if (least != "") printf "Goal, every case at least 5 times faster than Arb: %s (least %.2f)\n", (least >= 5 ? "met" : "MISSED"), least
+function least(p,    i, r) {
+    for (i = 1; i <= count; i++)
+        if ((p, names[i]) in us && (r == "" || times_proved(p, names[i]) < r)) r = times_proved(p, names[i])
+    return r
+}
+
+function goals() {
+    printf "Goal, a rise of 48 steps under 300 us: %s (%s)\n", (us["proved", "rise-48"] < 300 ? "met" : "MISSED"), time("proved", "rise-48")
+    if (least("arb") == "") return
+    printf "Goal, every case at least 5 times faster than Arb: %s (least %.2f); Arb fitted to each case: least %.2f\n", \
+        (least("arb") >= 5 ? "met" : "MISSED"), least("arb"), least("fitted")
 }
 
 END {
@@ -58,7 +61,7 @@ END {
     answers()
     print ""
     goals()
-    for (i = 1; i <= count; i++) { hold("share_c", names[i]); hold("f64", names[i]); hold("arb", names[i]) }
+    for (i = 1; i <= count; i++) { hold("share_c", names[i]); hold("f64", names[i]); hold("arb", names[i]); hold("fitted", names[i]) }
     if (count == 0) { print "no case was answered"; failed = 1 }
     exit failed
 }
