@@ -1,7 +1,7 @@
 /* Times the proved library. A line for each case: name, microseconds, low, high, answer. The exact value (share and rise; the heating sum T of a
    factor; the share G of a current; all in millionths) lies between low and high: that is what the answer promises of it. */
 #include "bench.h"
-#include "proved.h"
+#include "../include/kechmowad.h"
 
 static int64_t answer[5];
 

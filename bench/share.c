@@ -31,18 +31,21 @@ static Pair exp_fraction(u64 x)
     return (Pair){ ONE * ONE / (sum + 49), high < ONE ? high : ONE };
 }
 
-static Pair exp_neg(u64 num, u64 den)
+static Pair exp_rest(u64 num, u64 den) { return exp_fraction(num % den * ONE / den); }
+
+static Pair exp_from(Pair rest, u64 num, u64 den)
 {
     u64 m = num / den;
-    Pair p = { 0, ONE };
-    if (m > 16)
+    if (m > 16) {
+        rest = (Pair){ 0, ONE };
         m = 17;
-    else
-        p = exp_fraction(num % den * ONE / den);
+    }
     for (; m > 0; m--)
-        p = (Pair){ p.low * 395007542 / ONE, p.high * 395007543 / ONE + 1 };
-    return p;
+        rest = (Pair){ rest.low * 395007542 / ONE, rest.high * 395007543 / ONE + 1 };
+    return rest;
 }
+
+static Pair exp_neg(u64 num, u64 den) { return exp_from(exp_rest(num, den), num, den); }
 
 static Pair logarithm_slice(u64 x, u64 y)
 {
@@ -60,10 +63,10 @@ static Pair logarithm(u64 x, u64 y)
     return (Pair){ sum.low + rest.low, sum.high + rest.high };
 }
 
-static Pair heat_slice(u64 x, u64 y, u64 diffusion)
+static Pair heat_slice(u64 x, u64 y, u64 diffusion, Pair rest)
 {
     u64 v = y - x, theta = v * ONE / y;
-    Pair e = exp_neg(y, diffusion), q = series(theta, v * ONE / diffusion);
+    Pair e = exp_from(rest, y, diffusion), q = series(theta, v == diffusion ? ONE : v * ONE / diffusion);
     return (Pair){ e.low * q.low / ONE * theta / ONE, (e.high * q.high / ONE + 1) * (theta + 1) / ONE + 1 };
 }
 
@@ -77,10 +80,13 @@ static Pair heating_integral(u64 near, u64 far, u64 diffusion, u64 top)
         y = near > edge ? near : edge;
         sum.high = least(top * exp_neg(y, diffusion).high / ONE + 1, top);
     }
+    Pair rest = exp_rest(y, diffusion);
     while (y > near) {
         u64 step = least(y / 2, diffusion), x = y - near > step ? y - step : near;
-        Pair p = heat_slice(x, y, diffusion);
+        Pair p = heat_slice(x, y, diffusion, rest);
         sum = (Pair){ least(sum.low + p.low, top), least(sum.high + p.high, top) };
+        if (y - x != diffusion)
+            rest = exp_rest(x, diffusion);
         y = x;
     }
     return sum;

@@ -2,7 +2,7 @@
    cable A after 1 hour they take. First every choice of low end, middle and high end for each number; then, from the slowest of those, each number in turn
    over its whole range. */
 #include "bench.h"
-#include "proved.h"
+#include "../include/kechmowad.h"
 #include <math.h>
 
 enum { MINUTES = RATED, NUMBERS, KEPT = 6, SWEEP = 64, ROUNDS = 3, BATCH = 16 };

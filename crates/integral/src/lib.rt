@@ -1,10 +1,12 @@
 // The logarithm and the heating integral of any two squared distances, in fixed point: both are whole numbers of 2^-30.
 ghost use mathlib.Core.Path.{_≡_};
-ghost use Prim.Native.Nat.{_<_, min, max};
+ghost use Prim.Native.Nat.{_*_, _/_, _<_, min, max};
 ghost use Rattle.bounds.specs.Pair.{asBounds};
 ghost use Rattle.model.specs.Logarithm.{logarithmSlice, logarithm};
-ghost use Rattle.model.specs.Integral.{Stretch, Slice, slicePair, nextEnd, sliceStart, farPair, heatingIntegral};
-ghost use Rattle.integral.specs.Asked.{OneOctave, Ratio, Span};
+ghost use Rattle.model.specs.Integral.{Stretch, slicePair, nextEnd, sliceStart, farPair, heatingIntegral};
+ghost use Rattle.model.specs.Scale.{one};
+ghost use Rattle.series.specs.Asked.{restExp};
+ghost use Rattle.integral.specs.Asked.{OneOctave, Ratio, Span, Wide, SliceWithRest};
 use bounds::Bounds;
 use series::FAR_FROM;
 use series::ONE;
@@ -34,18 +36,42 @@ pub fn logarithm(x: u64, y: u64) -> Bounds
         .add(logarithm_slice(base, y))
 }
 
-// The integral of e^(-u)/u from x/diffusion to y/diffusion, one slice, in units of 2^-30.
-fn heat_slice(x: u64, y: u64, diffusion: u64) -> Bounds
-    requires { ⌜ Slice x y diffusion ⌝ }
+// The integral of e^(-u)/u from x/diffusion to y/diffusion, one slice, in units of 2^-30. `rest` is e^(-u) of what y leaves over whole diffusions.
+fn heat_slice(x: u64, y: u64, diffusion: u64, rest: Bounds) -> Bounds
+    requires { ⌜ SliceWithRest x y diffusion rest ⌝ }
     ensures { λ r. ⌜ r ≡ asBounds (slicePair x y diffusion) ⌝ }
 {
     let width = y - x;
     let theta = width * ONE / y;
-    let height = series::exp_neg(y, diffusion).scaled_mul(
-        series::series(theta, width * ONE / diffusion),
+    let height = series::exp_from(rest, y, diffusion).scaled_mul(
+        series::series(theta, diffusions(width, diffusion)),
         ONE,
     );
     height.scaled_mul(bounds::from_naturals(theta, theta + 1), ONE)
+}
+
+// How many diffusions a slice is wide, at most 1, in units of 2^-30. Most slices are 1 wide, and need no division.
+fn diffusions(width: u64, diffusion: u64) -> u64
+    requires { ⌜ Wide width diffusion ⌝ }
+    ensures { λ r. ⌜ r ≡ width * one / diffusion ⌝ }
+{
+    if width == diffusion {
+        ONE
+    } else {
+        width * ONE / diffusion
+    }
+}
+
+// e^(-u) of what x leaves over whole diffusions: what y leaves where they are one diffusion apart.
+fn next_rest(x: u64, y: u64, diffusion: u64, rest: Bounds) -> Bounds
+    requires { ⌜ SliceWithRest x y diffusion rest ⌝ }
+    ensures { λ r. ⌜ r ≡ asBounds (restExp x diffusion) ⌝ }
+{
+    if y - x == diffusion {
+        rest
+    } else {
+        series::exp_rest(x, diffusion)
+    }
 }
 
 fn least(a: u64, b: u64) -> u64
@@ -105,10 +131,12 @@ pub fn heating_integral(near: u64, far: u64, diffusion: u64, top: u64) -> Bounds
 {
     let mut sum = far_slice(near, far, diffusion, top);
     let mut y = slice_start(near, far, diffusion);
+    let mut rest = series::exp_rest(y, diffusion);
     while y > near {
         let x = next_end(near, y, diffusion);
-        sum = sum.add(heat_slice(x, y, diffusion))
+        sum = sum.add(heat_slice(x, y, diffusion, rest))
             .at_most(bounds::signed(top));
+        rest = next_rest(x, y, diffusion, rest);
         y = x;
     }
     sum

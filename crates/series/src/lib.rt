@@ -4,7 +4,7 @@ ghost use Rattle.bounds.specs.Pair.{asBounds, asPair};
 ghost use Rattle.model.specs.Scale.{one};
 ghost use Rattle.model.specs.Series.{seriesPair};
 ghost use Rattle.model.specs.Exponential.{fractionExpPair, decayed, expPair};
-ghost use Rattle.series.specs.Asked.{SliceFractions, PartOfOne, Exponent, UpTo};
+ghost use Rattle.series.specs.Asked.{SliceFractions, PartOfOne, Exponent, UpTo, restExp, WithRest};
 use bounds::Bounds;
 
 // 1, in units of 2^-30; and the same as an end of a pair.
@@ -83,14 +83,30 @@ fn decayed(start: Bounds, m: u64) -> Bounds
     pair
 }
 
-// e^(-num/den), in units of 2^-30.
-pub fn exp_neg(num: u64, den: u64) -> Bounds
+// e^(-x) for what num leaves over whole multiples of den, as a part of den, in units of 2^-30.
+pub fn exp_rest(num: u64, den: u64) -> Bounds
     requires { ⌜ Exponent num den ⌝ }
+    ensures { λ r. ⌜ r ≡ asBounds (restExp num den) ⌝ }
+{
+    exp_fraction(num % den * ONE / den)
+}
+
+// e^(-num/den) from that of the rest, in units of 2^-30.
+pub fn exp_from(rest: Bounds, num: u64, den: u64) -> Bounds
+    requires { ⌜ WithRest rest num den ⌝ }
     ensures { λ r. ⌜ r ≡ asBounds (expPair num den) ⌝ }
 {
     let whole = num / den;
     if whole > FAR_FROM {
         return decayed(bounds::from_naturals(0, ONE), FAR_FROM + 1);
     }
-    decayed(exp_fraction(num % den * ONE / den), whole)
+    decayed(rest, whole)
+}
+
+// e^(-num/den), in units of 2^-30.
+pub fn exp_neg(num: u64, den: u64) -> Bounds
+    requires { ⌜ Exponent num den ⌝ }
+    ensures { λ r. ⌜ r ≡ asBounds (expPair num den) ⌝ }
+{
+    exp_from(exp_rest(num, den), num, den)
 }
