@@ -7,7 +7,7 @@ typedef struct { u64 low, high; } Pair;
 
 #define ONE (1ull << 30)
 #define MILLION 1000000ull
-#define BETA_ONE 10000000ull
+#define BETA_ONE 7500000ull
 
 static Pair series(u64 theta, u64 tau)
 {
@@ -98,7 +98,7 @@ __attribute__((noinline)) static Pair share(u64 d, u64 l, u64 s, u64 k, u64 w, u
     Pair half = logarithm(d, 40 * l), n = { 2 * half.low, 2 * half.high };
     Pair j = heating_integral(5 * d * d, 8000 * l * l, 8 * t * s, n.high);
     u64 bl = least(j.low * BETA_ONE / n.high, BETA_ONE), bh = least(j.high * BETA_ONE / n.low + 1, BETA_ONE);
-    u64 xl = (MILLION * BETA_ONE - k * (BETA_ONE - bl)) / 10000, xh = (MILLION * BETA_ONE - k * (BETA_ONE - bh)) / 10000 + 1;
+    u64 xl = (MILLION * BETA_ONE - k * (BETA_ONE - bl)) / 7500, xh = (MILLION * BETA_ONE - k * (BETA_ONE - bh)) / 7500 + 1;
     Pair p = exp_neg(fast * t, MILLION), q = exp_neg(slow * t, MILLION);
     u64 al = (MILLION * ONE - w * p.high - (MILLION - w) * q.high) / MILLION;
     u64 ah = (MILLION * ONE - w * p.low - (MILLION - w) * q.low) / MILLION + 1;

@@ -1,5 +1,5 @@
 -- Document 01, 'Cases' and 'When the desk is told no', in one table: the marked cases, the small example of each refusal, and for each two neighbours
--- of an order an input with both faults. `proofs/Claim` has the sole claim: every row holds.
+-- of an order that some input can have both an input with both faults. `proofs/Claim` has the sole claim: every row holds.
 use mathlib.Core.Path.{_≡_}
 use mathlib.Core.Bool.{Bool, true, false}
 use mathlib.Core.List.{List, [], _∷_, _++_, map}

@@ -5,7 +5,7 @@ use Rattle.bounds.specs.Pair.{asBounds}
 use Rattle.bounds.specs.declared.Bounds.{Bounds}
 use Rattle.model.specs.Scale.{diffusionEnd}
 use Rattle.model.specs.Integral.{Stretch, Slice}
-use Rattle.series.specs.Asked.{restExp}
+use Rattle.model.specs.Exponential.{restExp}
 
 -- y lies from x to 2x; half of it times 2^30 stays below 2^64
 pub record OneOctave (x y : ℕ) : Type 0 where

@@ -5,7 +5,7 @@ ghost use Rattle.bounds.specs.Pair.{asBounds};
 ghost use Rattle.model.specs.Logarithm.{logarithmSlice, logarithm};
 ghost use Rattle.model.specs.Integral.{Stretch, slicePair, nextEnd, sliceStart, farPair, heatingIntegral};
 ghost use Rattle.model.specs.Scale.{one};
-ghost use Rattle.series.specs.Asked.{restExp};
+ghost use Rattle.model.specs.Exponential.{restExp};
 ghost use Rattle.integral.specs.Asked.{OneOctave, Ratio, Span, Wide, SliceWithRest};
 use bounds::Bounds;
 use series::FAR_FROM;

@@ -33,7 +33,7 @@ no-place : refusalLine (record { number = 13; place = None }) ≡ 114 ∷ 101 �
 unfolding refusalLine decimalText leading
 no-place = refl
 
--- "rise 999"
-one-value : valueLine rise 999 ≡ 114 ∷ 105 ∷ 115 ∷ 101 ∷ 32 ∷ 57 ∷ 57 ∷ 57 ∷ 10 ∷ []
+-- C4: "factor 999"
+one-value : valueLine (102 ∷ 97 ∷ 99 ∷ 116 ∷ 111 ∷ 114 ∷ []) 999 ≡ 102 ∷ 97 ∷ 99 ∷ 116 ∷ 111 ∷ 114 ∷ 32 ∷ 57 ∷ 57 ∷ 57 ∷ 10 ∷ []
 unfolding valueLine decimalText leading
 one-value = refl

@@ -1,6 +1,5 @@
--- Worked values of the models. Each was computed beforehand, in another language, by the project's exact simulation of the algorithm (share.py of its
--- prototypes, run for these arguments). There β is in units of 10^-7 and the surface factor is rounded after its subtraction, so of these
--- two no values stand here; the shares come out the same.
+-- Worked values of the models. Each was worked out beforehand, in whole numbers and not by this code. Of β and the surface factor no values stand here; of the
+-- share they do.
 use mathlib.Core.Path.{_≡_, refl}
 use mathlib.Core.List.{List, [], _∷_}
 use Rattle.bounds.specs.Pair.{Pair, addP, lessP, scaledP, quotientP, timesP, dividedP, atMostP}

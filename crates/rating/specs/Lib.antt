@@ -1,5 +1,5 @@
 pub mod Names
 pub mod Words
-pub mod Lines
 pub mod Hours
+pub mod Lines
 pub mod Examples

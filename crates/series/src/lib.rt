@@ -3,8 +3,8 @@ ghost use mathlib.Core.Path.{_≡_};
 ghost use Rattle.bounds.specs.Pair.{asBounds, asPair};
 ghost use Rattle.model.specs.Scale.{one};
 ghost use Rattle.model.specs.Series.{seriesPair};
-ghost use Rattle.model.specs.Exponential.{fractionExpPair, decayed, expPair};
-ghost use Rattle.series.specs.Asked.{SliceFractions, PartOfOne, Exponent, UpTo, restExp, WithRest};
+ghost use Rattle.model.specs.Exponential.{fractionExpPair, decayed, restExp, expPair};
+ghost use Rattle.series.specs.Asked.{SliceFractions, PartOfOne, Exponent, UpTo, WithRest};
 use bounds::Bounds;
 
 // 1, in units of 2^-30; and the same as an end of a pair.

@@ -16,7 +16,7 @@ pub struct Verdict {
     pub held: Held,
 }
 
-/// Results that a run should not lack, for each of the calculations.
+/// Results that a long run must not lack, for each of the calculations that it asks.
 pub const SPECIAL: [&str; 4] = ["low 0", "low below 0", "the cap", "the cap"];
 
 impl Verdict {

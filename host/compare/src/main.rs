@@ -22,11 +22,11 @@ const LONG_COUNT: u64 = 10_000_000;
 /// Inputs between two signs of life.
 const BLOCK: u64 = 1_000_000;
 
-/// From so many inputs on, a refusal that never came is a failure.
+/// From so many inputs on, a refusal or a special result that never came is a failure.
 const ENOUGH: u64 = 2_000;
 
 /// Asks so many inputs, prints the tally, and tells whether all agreed and each of the
-/// refusals came.
+/// refusals and special results came.
 fn run(run: &Run, count: u64, refusals: Range<usize>) -> bool {
     println!("seed {}, {count} inputs", run.seed);
     let mut tally = Tally::default();
@@ -43,7 +43,7 @@ fn run(run: &Run, count: u64, refusals: Range<usize>) -> bool {
         tally.missing(refusals)
     };
     if !missing.is_empty() {
-        println!("FAILED: these refusals never came: {missing:?}");
+        println!("FAILED: these never came: {missing:?}");
     }
     println!("{tally}");
     tally.agreed() && missing.is_empty()

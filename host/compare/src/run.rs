@@ -114,11 +114,15 @@ impl Tally {
         self.disagreed == 0
     }
 
-    /// Those of these refusals that never came.
-    pub fn missing(&self, numbers: Range<usize>) -> Vec<usize> {
-        numbers
+    /// Those of these refusals, and of the special results of what was asked, that never came.
+    pub fn missing(&self, numbers: Range<usize>) -> Vec<String> {
+        let refusals = numbers
             .filter(|&number| self.refused[number] == 0)
-            .collect()
+            .map(|number| format!("refusal {number}"));
+        let special = (0..SPECIAL.len())
+            .filter(|&i| self.asked[i] > 0 && self.special[i] == 0)
+            .map(|i| format!("{} with {}", CALCULATIONS[i], SPECIAL[i]));
+        refusals.chain(special).collect()
     }
 }
 

@@ -46,22 +46,29 @@ impl Shown {
             .env("PATH", format!("{}:{path}", programs.display()))
             .output()
             .map_err(|error| format!("{}: {error}", self.command))?;
-        let printed = String::from_utf8_lossy(&output.stdout);
+        let [printed, complaint] =
+            [&output.stdout, &output.stderr].map(|bytes| String::from_utf8_lossy(bytes));
         let words = format!(
-            "`{}` prints {:?}, not {printed:?}",
+            "`{}` prints {:?} and nothing else, not {printed:?} and {complaint:?}",
             self.command, self.prints
         );
-        require(printed == self.prints, &words)
+        require(printed == self.prints && complaint.is_empty(), &words)
     }
 }
 
 /// Runs all that some files of the repository show; whether each prints what is shown.
 pub fn run(root: &Path, programs: &Path, files: &[&str]) -> bool {
     // The commands run in another folder than this program.
-    let programs = &programs.canonicalize().unwrap_or_default();
+    let Ok(programs) = &programs.canonicalize() else {
+        println!("FAILED: there is no folder {}", programs.display());
+        return false;
+    };
     let mut all = true;
     for file in files {
-        let text = std::fs::read_to_string(root.join(file)).unwrap_or_default();
+        let Ok(text) = std::fs::read_to_string(root.join(file)) else {
+            println!("FAILED: {file} cannot be read");
+            return false;
+        };
         let shown = shown_in(&text);
         let failed: Vec<String> = shown
             .iter()

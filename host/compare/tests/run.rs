@@ -58,7 +58,8 @@ fn a_refusal_that_never_came_is_missing() {
         check: &check,
     };
     // A sheet meets no refusal above 8.
-    assert_eq!(run.over(0..300).missing(9..14), [9, 10, 11, 12, 13]);
+    let never: Vec<String> = (9..14).map(|number| format!("refusal {number}")).collect();
+    assert_eq!(run.over(0..300).missing(9..14), never);
 }
 
 #[test]

@@ -30,4 +30,5 @@ fn what_is_printed_is_held_to_what_is_shown() {
     for prints in ["2\n", "1", "", "1\n1\n"] {
         assert!(held("echo 1", prints).is_err(), "{prints:?}");
     }
+    assert!(held("echo 1; echo 2 >&2", "1\n").is_err());
 }

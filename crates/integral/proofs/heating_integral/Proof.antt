@@ -3,7 +3,7 @@ use mathlib.Core.Path.{_≡_, _∙_}
 use native.Mathlib.Omega.{arith}
 use Rattle.numbers.proofs.Machine.{result-seen}
 use Rattle.bounds.specs.Pair.{asBounds}
-use Rattle.series.specs.Asked.{restExp}
+use Rattle.model.specs.Exponential.{restExp}
 use Rattle.integral.proofs.Turns.{SliceTurn, slice-begin, turn-slice, turn-room, slice-again, slice-done}
 use Rattle.integral.proofs.heating_integral.Statement.{statement}
 use Rattle.integral.proofs.heating_integral.Tie as tie

@@ -3,7 +3,8 @@ use mathlib.Core.Path.{_≡_, refl, sym, _∙_}
 use mathlib.Core.Bool.{false}
 use borrow.Author.Needs.{needs}
 use Rattle.text.specs.Reading.{sameBytes}
-use Rattle.rating.specs.Names.{shareWord, factorWord, currentWord, riseWord, explainWord, commandOf}
+use Rattle.report.specs.Lines.{riseWord}
+use Rattle.rating.specs.Names.{shareWord, factorWord, currentWord, explainWord, commandOf}
 use Rattle.rating.proofs.command.command_of.Statement.{statement}
 use Rattle.rating.proofs.command.command_of.Tie as tie
 

@@ -9,8 +9,8 @@ use lib.Seq.{getD-set-same, getD-set-other}
 use native.Mathlib.Omega.{arith}
 use borrow.Author.Needs.{needs}
 use Rattle.rating.specs.Hours.{mostHour, HoursTo}
-use Rattle.rating.proofs.hours_from.Statement.{statement}
-use Rattle.rating.proofs.hours_from.Tie as tie
+use Rattle.rating.proofs.answers.hours_from.Statement.{statement}
+use Rattle.rating.proofs.answers.hours_from.Tie as tie
 
 one-more : (k : ℕ) (values hours : List ℕ) (x : ℕ) → k < 24 → x ≡ min (getD values (8 + k) 0) mostHour → HoursTo k values hours → HoursTo (k + 1) values (set hours k x)
 one-more k values hours x below e so-far =
