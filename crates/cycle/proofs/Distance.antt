@@ -33,7 +33,7 @@ use Rattle.cycle.proofs.FactorTest.{nothing-allowed, never-below}
 
 -- ---- the sum
 
-module _ (width : ℕ) (shares : ℕ → Value) (pairs : ℕ → Bounds) (each : (i : ℕ) → i < heatingHours → Enclosed width (shares (suc i)) (pairs (suc i))) (hours : List ℕ) (hour : ℕ) where
+module _ (width : ℕ) (shares : ℕ → Value) (pairs : ℕ → Bounds) (each : (i : ℕ) → i < heatingHours → Enclosed width (shares (60 * suc i)) (pairs (suc i))) (hours : List ℕ) (hour : ℕ) where
   record SumHeld (n : ℕ) : Type 0 where
     sound : exactGathered shares hours hour n ⊴ exactGathered shares hours hour n
     around : Around (gatheredBounds hours hour pairs n) (exactGathered shares hours hour n)
@@ -80,11 +80,11 @@ module _ (width : ℕ) (shares : ℕ → Value) (pairs : ℕ → Bounds) (each :
     sum-at-most = most-below (heating-spread .narrow) (most-add (heatingBounds pairs hours hour .low) (pos (sumWidth width)) (heating-around .low-at-most))
 
 -- every order that gives bounds of the six shares gives bounds of the sum
-module _ (shares : ℕ → Value) (o : ℕ) (each : (i : ℕ) → i < heatingHours → T (shares (suc i) .ok o)) (hours : List ℕ) (hour : ℕ) where
+module _ (shares : ℕ → Value) (o : ℕ) (each : (i : ℕ) → i < heatingHours → T (shares (60 * suc i) .ok o)) (hours : List ℕ) (hour : ℕ) where
   gathered-bounds : (n : ℕ) → n ≤ heatingHours → T (exactGathered shares hours hour n .ok o)
   unfolding exactGathered
   gathered-bounds zero h = tt
-  gathered-bounds (suc n) h = both (exactGathered shares hours hour n .ok o) (shares (suc n) .ok o) (gathered-bounds n (omega arith)) (each n (omega arith))
+  gathered-bounds (suc n) h = both (exactGathered shares hours hour n .ok o) (shares (60 * suc n) .ok o) (gathered-bounds n (omega arith)) (each n (omega arith))
 
   pub heating-bounds : 0 < commonDivisor hours → T (exactHeating shares hours hour .ok o)
   unfolding exactHeating
@@ -116,7 +116,7 @@ module _ (width : ℕ) (heating : Value) (sound : heating ⊴ heating) (sum : �
             (most-times (k * k) sum (add⊴ sound (constant⊴ (refl≼ₛ (ofInt (pos (sumWidth width)))))) u);
       }
 
-pub factor-distance : (width : ℕ) (shares : ℕ → Value) (pairs : ℕ → Bounds) → ((i : ℕ) → i < heatingHours → Enclosed width (shares (suc i)) (pairs (suc i))) → (hours : List ℕ) (hour : ℕ) → 0 < commonDivisor hours
+pub factor-distance : (width : ℕ) (shares : ℕ → Value) (pairs : ℕ → Bounds) → ((i : ℕ) → i < heatingHours → Enclosed width (shares (60 * suc i)) (pairs (suc i))) → (hours : List ℕ) (hour : ℕ) → 0 < commonDivisor hours
     → FactorDistance width (exactHeating shares hours hour) (largestFactor (heatingSum pairs hours hour))
 factor-distance width shares pairs each hours hour zd =
     factor-near width (exactHeating shares hours hour) (heating-sound width shares pairs each hours hour zd) (heatingSum pairs hours hour) (sum-at-least width shares pairs each hours hour zd) (sum-at-most width shares pairs each hours hour zd)

@@ -15,13 +15,13 @@ use Rattle.cable.specs.declared.Cable.{Cable}
 use Rattle.cable.specs.declared.CableCheck.{CableCheck}
 use Rattle.cable.specs.declared.CableCheck.the-variants as C
 use Rattle.cable.proofs.Acceptance.{accepted-in-range}
-use Rattle.share.specs.Promises.{shareWidth}
+use Rattle.share.specs.Promises.{shareWidth, exactShare}
 use Rattle.distance.proofs.Enclosed.{Enclosed, share-enclosed, exact-share-bounds}
 use Rattle.cycle.specs.Day.{dayHours, highestLoad, referenceHour}
 use Rattle.cycle.specs.Heating.{heatingHours, heatingSum}
 use Rattle.cycle.specs.Factor.{largestFactor}
 use Rattle.cycle.specs.Exact.{exactHeating, FactorDistance}
-use Rattle.cycle.specs.Answer.{firstAbove, allZero, refused10, refused11, factorFrom, afterChecks, hourPair, hourShare, factorAnswer, FactorSaid}
+use Rattle.cycle.specs.Answer.{firstAbove, allZero, refused10, refused11, factorFrom, afterChecks, hourPair, factorAnswer, FactorSaid}
 use Rattle.cycle.specs.declared.FactorAnswer.{FactorAnswer}
 use Rattle.cycle.specs.declared.FactorAnswer.the-variants.{Factor, Refused}
 use Rattle.cycle.proofs.Day.{highest-zero}
@@ -32,13 +32,13 @@ module _ (cable : Cable) {c : Cable} (e : checked cable ≡ C.Accepted c) where
   hour-accepted : (i : ℕ) → i < heatingHours → Accepted (numbersOf (inUse defaultDiffusivity cable)) (60 * suc i)
   hour-accepted i h = record { cable = accepted-in-range cable (ap (λ a. statedCheck a .number) e) .numbers; minutes-from = omega arith; minutes-to = omega arith }
 
-  hour-enclosed : (i : ℕ) → i < heatingHours → Enclosed shareWidth (hourShare cable (suc i)) (hourPair cable (suc i))
+  hour-enclosed : (i : ℕ) → i < heatingHours → Enclosed shareWidth (exactShare cable (60 * suc i)) (hourPair cable (suc i))
   hour-enclosed i h = share-enclosed cable (60 * suc i) (hour-accepted i h)
 
   -- every order from 1 gives bounds of the exact sum
-  pub exact-heating-bounds : (hours : List ℕ) (hour : ℕ) → 0 < highestLoad hours → (n : ℕ) → T (fromOne n) → T (exactHeating (hourShare cable) hours hour .ok n)
+  pub exact-heating-bounds : (hours : List ℕ) (hour : ℕ) → 0 < highestLoad hours → (n : ℕ) → T (fromOne n) → T (exactHeating (exactShare cable) hours hour .ok n)
   exact-heating-bounds hours hour z n t =
-      heating-bounds (hourShare cable) n (λ i h. exact-share-bounds cable (60 * suc i) (hour-accepted i h) n t) hours hour (divisor-above-zero hours z)
+      heating-bounds (exactShare cable) n (λ i h. exact-share-bounds cable (60 * suc i) (hour-accepted i h) n t) hours hour (divisor-above-zero hours z)
 
 -- an array of a day that is not all 0 has an hour with a load
 some-load : (hours : List ℕ) → length hours ≡ dayHours → allZero hours ≡ false → 0 < highestLoad hours
@@ -51,14 +51,14 @@ some-load hours l e = not-zero (highestLoad hours) (λ z. let all : allZero hour
 module _ (cable : Cable) (hours : List ℕ) (l : length hours ≡ dayHours) {m : ℕ} where
   given : (a : CableCheck) (t u : Bool) → checked cable ≡ a → allZero hours ≡ u
       → afterChecks a (cond t (Refused (refused10 (firstAbove 0 hours))) (cond u (Refused refused11) (Factor (largestFactor (heatingSum (hourPair cable) hours (referenceHour hours)))))) ≡ Factor m
-      → FactorDistance shareWidth (exactHeating (hourShare cable) hours (referenceHour hours)) m
+      → FactorDistance shareWidth (exactHeating (exactShare cable) hours (referenceHour hours)) m
   given (C.Refused f) t u ea eu e = let z : _≡_ {A = ℕ} 0 1 = cc in absurd (omega arith)
   given (C.Accepted c) true u ea eu e = let z : _≡_ {A = ℕ} 0 1 = cc in absurd (omega arith)
   given (C.Accepted c) false true ea eu e = let z : _≡_ {A = ℕ} 0 1 = cc in absurd (omega arith)
   given (C.Accepted c) false false ea eu e =
       let i : largestFactor (heatingSum (hourPair cable) hours (referenceHour hours)) ≡ m = cc in
-      subst (λ (k : ℕ). FactorDistance shareWidth (exactHeating (hourShare cable) hours (referenceHour hours)) k) i
-      (factor-distance shareWidth (hourShare cable) (hourPair cable) (hour-enclosed cable ea) hours (referenceHour hours) (divisor-above-zero hours (some-load hours l eu)))
+      subst (λ (k : ℕ). FactorDistance shareWidth (exactHeating (exactShare cable) hours (referenceHour hours)) k) i
+      (factor-distance shareWidth (exactShare cable) (hourPair cable) (hour-enclosed cable ea) hours (referenceHour hours) (divisor-above-zero hours (some-load hours l eu)))
 
 pub said : {cable : Cable} {hours : List ℕ} {r : FactorAnswer} → length hours ≡ dayHours → r ≡ factorAnswer cable hours → FactorSaid cable hours r
 unfolding factorAnswer factorFrom

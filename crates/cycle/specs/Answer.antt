@@ -13,7 +13,6 @@ use Rattle.cable.specs.declared.Refusal.{Refusal}
 use Rattle.cable.specs.declared.Place.the-variants.{None, Hour}
 use Rattle.cable.specs.declared.CableCheck.{CableCheck}
 use Rattle.cable.specs.declared.CableCheck.the-variants as C
-use Rattle.exact.specs.Value.{Value}
 use Rattle.share.specs.Pair.{sharePair}
 use Rattle.share.specs.Promises.{shareWidth, exactShare}
 use Rattle.cycle.specs.Day.{dayHours, referenceHour}
@@ -59,9 +58,6 @@ afterChecks (C.Refused f) answer = Refused f
 abbrev pub hourPair : Cable → ℕ → Bounds
 hourPair cable hour = sharePair cable (60 * hour)
 
-abbrev pub hourShare : Cable → ℕ → Value
-hourShare cable hour = exactShare cable (60 * hour)
-
 unfoldable pub factorAnswer : Cable → List ℕ → FactorAnswer
 factorAnswer cable hours = afterChecks (checked cable) (factorFrom (hourPair cable) hours)
 
@@ -73,4 +69,4 @@ statedFactor (Refused f) = statedRefusal f
 -- the answer, and how far a factor may be from the exact one: 'What the distances say'
 pub record FactorSaid (cable : Cable) (hours : List ℕ) (r : FactorAnswer) : Type 0 where
   pub answer : r ≡ factorAnswer cable hours
-  pub distance : (m : ℕ) → r ≡ Factor m → FactorDistance shareWidth (exactHeating (hourShare cable) hours (referenceHour hours)) m
+  pub distance : (m : ℕ) → r ≡ Factor m → FactorDistance shareWidth (exactHeating (exactShare cable) hours (referenceHour hours)) m

@@ -1,5 +1,5 @@
 -- Document 01, 'What the distances say': "The exact [..] heating sum [is its formula] with the exact G for each share [..] the heating sum is taken
--- gathered." The exact shares at whole hours, in millionths, are any function from hours to a value, and the reference hour is any.
+-- gathered." The exact shares, in millionths, are any function from minutes to a value, and the reference hour is any.
 use mathlib.Core.List.{List}
 use Prim.Native.Nat.{ℕ, zero, suc, _+_, _*_, _<_}
 use lib.IntN.{pos}
@@ -8,10 +8,10 @@ use Rattle.numbers.specs.Signed.{ofInt}
 use Rattle.exact.specs.Value.{Value, AtMost, AtLeast, number, integer, _+ᵥ_, _·ᵥ_, _/ᵥ_}
 use Rattle.cycle.specs.Heating.{heatingHours, commonDivisor, relativeLoad, gatheredLoad}
 
--- 'The daily cycle', "Gather what multiplies each G": the terms of G(1) to G(n), on what multiplies none of them
+-- 'The daily cycle', "Gather what multiplies each G", "with G at whole hours": the terms of G(1) to G(n), on what multiplies none of them
 unfoldable pub exactGathered : (ℕ → Value) → List ℕ → ℕ → ℕ → Value
 exactGathered shares hours hour zero = integer (pos (relativeLoad hours hour heatingHours * 1000000))
-exactGathered shares hours hour (suc i) = exactGathered shares hours hour i +ᵥ integer (gatheredLoad hours hour i) ·ᵥ shares (suc i)
+exactGathered shares hours hour (suc i) = exactGathered shares hours hour i +ᵥ integer (gatheredLoad hours hour i) ·ᵥ shares (60 * suc i)
 
 -- "let T be the exact heating sum in millionths"
 unfoldable pub exactHeating : (ℕ → Value) → List ℕ → ℕ → Value
