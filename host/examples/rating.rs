@@ -34,7 +34,10 @@ fn main() -> Result<(), Refusal> {
     let looping = sheet(&CABLE, 300, 1, &[[30, 300, 1]]);
     match rise(&looping) {
         Ok(_) => println!("looping sheet: no refusal"),
-        Err(Refusal { number, place }) => println!("looping sheet: refused {number} at {place}"),
+        Err(refusal) => {
+            let (number, place) = (refusal.number(), refusal.place);
+            println!("looping sheet: refused {number} at {place}");
+        }
     }
     Ok(())
 }

@@ -3,12 +3,13 @@
 //! answers; every call takes whatever it is handed and gives a result or a refusal.
 //!
 //! ```
-//! use kechmowad::{current, share, Cable, Place, Refusal};
+//! use kechmowad::{current, share, Cable, Condition, Place, Refusal};
 //!
 //! let cable = Cable::from([500, 1_000, 500, 600_000, 500_000, 1_000, 100, 400]);
 //! assert!(share(&cable, 60)?.low <= 340_185);
 //! assert_eq!(current(&cable, 100, 100, 60), Ok(400));
-//! assert_eq!(share(&cable, 2_881), Err(Refusal { number: 9, place: Place::None }));
+//! let late = Refusal { condition: Condition::Minutes, place: Place::None };
+//! assert_eq!(share(&cable, 2_881), Err(late));
 //! # Ok::<(), Refusal>(())
 //! ```
 
@@ -16,7 +17,7 @@
 
 mod refusal;
 
-pub use refusal::{Place, Refusal};
+pub use refusal::{Condition, Place, Refusal};
 
 /// A cable in soil: the eight fields of the paper's table, in its order and units.
 #[repr(C)]
@@ -94,8 +95,11 @@ fn ask(call: impl FnOnce(*mut i64)) -> Result<[i64; 2], Refusal> {
 fn read(answer: [i64; 5]) -> Result<[i64; 2], Refusal> {
     match answer {
         [0, 0, 0, values @ ..] => Ok(values),
-        [number @ 1..=13, kind, place, 0, 0] => Err(Refusal {
-            number: number as u8,
+        [number, kind, place, 0, 0] => Err(Refusal {
+            condition: u8::try_from(number)
+                .ok()
+                .and_then(Condition::of)
+                .unwrap_or_else(|| panic!("no refusal: {answer:?}")),
             place: Place::read(kind, place).unwrap_or_else(|| panic!("no place: {answer:?}")),
         }),
         _ => panic!("no answer of the library: {answer:?}"),

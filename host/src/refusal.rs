@@ -1,4 +1,4 @@
-//! Refusals: a number and a place.
+//! Refusals: a condition and a place.
 
 use std::fmt;
 
@@ -40,37 +40,90 @@ impl Place {
     }
 }
 
-/// A refusal: its number in the paper's table, 1 to 13, and its place.
+/// Why a calculation is refused: the conditions of the paper's table 'When the desk is told
+/// no', by their numbers.
+#[derive(Debug, Clone, Copy, PartialEq, Eq)]
+#[repr(u8)]
+pub enum Condition {
+    /// Length is not 36 + 6n, n 0 to 48.
+    Length = 1,
+    /// Field outside its range, first such.
+    Field = 2,
+    /// Slow rate above fast.
+    Rates = 3,
+    /// Starting current above 4,000.
+    StartingCurrent = 4,
+    /// Link above n.
+    Link = 5,
+    /// Record's minutes out of range.
+    RecordMinutes = 6,
+    /// Record's amperes above 4,000.
+    RecordAmperes = 7,
+    /// Minutes not below the record before.
+    Order = 8,
+    /// Minutes asked outside 1 to 2,880.
+    Minutes = 9,
+    /// Hour above 4,000 A, first such.
+    Hour = 10,
+    /// All hours 0.
+    NoLoad = 11,
+    /// h outside 0 to 200, or r outside 1 to 200.
+    Percent = 12,
+    /// h² above 100·r.
+    TooHot = 13,
+}
+
+/// Each condition as the table words it, in the table's order.
+const CONDITIONS: [(Condition, &str); 13] = [
+    (Condition::Length, "length is not 36 + 6n, n 0 to 48"),
+    (Condition::Field, "field outside its range, first such"),
+    (Condition::Rates, "slow rate above fast"),
+    (Condition::StartingCurrent, "starting current above 4,000"),
+    (Condition::Link, "link above n"),
+    (Condition::RecordMinutes, "record's minutes out of range"),
+    (Condition::RecordAmperes, "record's amperes above 4,000"),
+    (Condition::Order, "minutes not below the record before"),
+    (Condition::Minutes, "minutes asked outside 1 to 2,880"),
+    (Condition::Hour, "hour above 4,000 A, first such"),
+    (Condition::NoLoad, "all hours 0"),
+    (
+        Condition::Percent,
+        "h outside 0 to 200, or r outside 1 to 200",
+    ),
+    (Condition::TooHot, "h² above 100·r"),
+];
+
+impl Condition {
+    /// The condition of a number, or nothing where the table has none.
+    pub fn of(number: u8) -> Option<Condition> {
+        let row = usize::from(number).checked_sub(1)?;
+        CONDITIONS.get(row).map(|&(condition, _)| condition)
+    }
+
+    /// Its number in the table, 1 to 13.
+    pub fn number(self) -> u8 {
+        self as u8
+    }
+
+    /// The table's words.
+    pub fn words(self) -> &'static str {
+        CONDITIONS[usize::from(self.number()) - 1].1
+    }
+}
+
+/// A refusal: a condition of the paper's table, and its place.
 #[derive(Debug, Clone, Copy, PartialEq, Eq)]
 pub struct Refusal {
-    /// The number.
-    pub number: u8,
-    /// The place.
+    /// Which condition holds, the first in the paper's order.
+    pub condition: Condition,
+    /// Where.
     pub place: Place,
 }
 
-/// The conditions of the paper's table 'When the desk is told no', from number 1.
-const CONDITIONS: [&str; 13] = [
-    "length is not 36 + 6n, n 0 to 48",
-    "field outside its range, first such",
-    "slow rate above fast",
-    "starting current above 4,000",
-    "link above n",
-    "record's minutes out of range",
-    "record's amperes above 4,000",
-    "minutes not below the record before",
-    "minutes asked outside 1 to 2,880",
-    "hour above 4,000 A, first such",
-    "all hours 0",
-    "h outside 0 to 200, or r outside 1 to 200",
-    "h² above 100·r",
-];
-
 impl Refusal {
-    /// The condition as the paper's table words it; nothing for a number outside 1 to 13.
-    pub fn condition(self) -> Option<&'static str> {
-        let row = usize::from(self.number).checked_sub(1)?;
-        CONDITIONS.get(row).copied()
+    /// The condition's number, 1 to 13: what the programs print.
+    pub fn number(self) -> u8 {
+        self.condition.number()
     }
 }
 
@@ -89,12 +142,27 @@ impl fmt::Display for Place {
 
 impl fmt::Display for Refusal {
     fn fmt(&self, f: &mut fmt::Formatter<'_>) -> fmt::Result {
-        write!(f, "refused {}", self.number)?;
+        write!(f, "refused {}", self.number())?;
         if self.place != Place::None {
             write!(f, " at {}", self.place)?;
         }
-        write!(f, ": {}", self.condition().unwrap_or("no such refusal"))
+        write!(f, ": {}", self.condition.words())
     }
 }
 
 impl std::error::Error for Refusal {}
+
+#[cfg(test)]
+mod tests {
+    use super::*;
+
+    #[test]
+    fn numbers_and_conditions_belong_together() {
+        for (row, (condition, words)) in CONDITIONS.into_iter().enumerate() {
+            assert_eq!(usize::from(condition.number()), row + 1);
+            assert_eq!(Condition::of(condition.number()), Some(condition));
+            assert_eq!(condition.words(), words);
+        }
+        assert_eq!([0, 14, 255].map(Condition::of), [None; 3]);
+    }
+}

@@ -71,7 +71,7 @@ fn c5_to_c8_currents() {
         assert_eq!(current(&A, 100, 100, minutes), Ok(400));
         assert_eq!(current(&A, 50, 25, minutes), Ok(200));
         let told = current(&A, 51, 25, minutes).unwrap_err();
-        assert_eq!((told.number, told.place), (13, Place::None));
+        assert_eq!((told.number(), told.place), (13, Place::None));
         assert_eq!(current(&a_401, 50, 25, minutes), Ok(200));
     }
 }
@@ -93,11 +93,11 @@ fn c9_and_c10_shares() {
 #[test]
 fn c11_and_c12_sheets() {
     let told = rise(&sheet(&A, 300, 1, &[[30, 300, 1]])).unwrap_err();
-    assert_eq!((told.number, told.place), (8, Place::Record(1)));
+    assert_eq!((told.number(), told.place), (8, Place::Record(1)));
     let most = sheet(&A, 300, 0, &[[0; 3]; 48]);
     assert_eq!(most.len(), 324);
     assert_eq!(rise(&most), STEADY);
     let more = sheet(&A, 300, 0, &[[0; 3]; 49]);
     assert_eq!(more.len(), 330);
-    assert_eq!(rise(&more).unwrap_err().number, 1);
+    assert_eq!(rise(&more).unwrap_err().number(), 1);
 }

@@ -1,7 +1,7 @@
 //! The small examples of document 01's table 'When the desk is told no', through the
 //! static library. Number, place and condition are the table's.
 
-use kechmowad::{current, factor, rise, share, sheet, Cable, Place, Refusal};
+use kechmowad::{current, factor, rise, share, sheet, Cable, Condition, Place, Refusal};
 
 /// Cable A of the cases.
 fn cable_a() -> Cable {
@@ -62,7 +62,8 @@ fn each_is_told_its_number_and_place() {
         Place::None,
     ];
     for ((told, place), number) in small_examples().into_iter().zip(places).zip(1..) {
-        assert_eq!(told, Some(Refusal { number, place }));
+        assert_eq!(told.map(Refusal::number), Some(number));
+        assert_eq!(told.map(|refusal| refusal.place), Some(place));
     }
 }
 
@@ -92,7 +93,8 @@ fn a_field_is_told_by_every_call() {
     ];
     for (cable, field) in cables.iter().zip(1..) {
         let place = Place::Field(field);
-        let told = Some(Refusal { number: 2, place });
+        let condition = Condition::Field;
+        let told = Some(Refusal { condition, place });
         assert_eq!(share(cable, 0).err(), told);
         assert_eq!(rise(&sheet(cable, 300, 0, &[])).err(), told);
         assert_eq!(factor(cable, &[0; 24]).err(), told);
@@ -102,5 +104,5 @@ fn a_field_is_told_by_every_call() {
 
 #[test]
 fn no_bytes_at_all() {
-    assert_eq!(rise(&[]).unwrap_err().number, 1);
+    assert_eq!(rise(&[]).unwrap_err().number(), 1);
 }

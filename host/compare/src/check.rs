@@ -22,7 +22,7 @@ pub const SPECIAL: [&str; 4] = ["low 0", "low below 0", "the cap", "the cap"];
 impl Verdict {
     /// The verdict on an answer.
     pub fn new<T>(said: Result<T, Refusal>, special: fn(T) -> bool, held: Held) -> Verdict {
-        let refused = said.as_ref().err().map(|refusal| refusal.number);
+        let refused = said.as_ref().err().map(|refusal| refusal.number());
         Verdict {
             refused,
             special: said.is_ok_and(special),

@@ -22,8 +22,8 @@ fn theirs(cable: &Cable) -> second::Cable {
     }
 }
 
-/// The second program's refusal in the library's words.
-fn ours(refusal: second::Refusal) -> Refusal {
+/// The number of the second program's refusal, and its place in the library's words.
+fn ours(refusal: second::Refusal) -> (u8, Place) {
     let place = match refusal.place {
         second::Place::None => Place::None,
         second::Place::Field(n) => Place::Field(n),
@@ -31,10 +31,7 @@ fn ours(refusal: second::Refusal) -> Refusal {
         second::Place::Hour(n) => Place::Hour(n),
         second::Place::Input(n) => Place::Input(n),
     };
-    Refusal {
-        number: refusal.number,
-        place,
-    }
+    (refusal.number, place)
 }
 
 /// Equal refusals agree, and two results agree where `within` says so.
@@ -45,7 +42,10 @@ fn agree<L: Copy + Debug, S: Copy + Debug>(
 ) -> Held {
     let held = match (library, second) {
         (Ok(said), Ok(exact)) => within(said, exact),
-        (Err(here), Err(there)) => require(here == ours(there), "equal refusals and places"),
+        (Err(here), Err(there)) => require(
+            (here.number(), here.place) == ours(there),
+            "equal refusals and places",
+        ),
         _ => require(false, "both a result or both a refusal"),
     };
     held.map_err(|why| format!("library: {library:?}\nsecond:  {second:?}\n{why}"))

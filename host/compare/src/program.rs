@@ -38,7 +38,7 @@ pub fn printed(program: &Path, sheet: &[u8]) -> Result<String, String> {
 pub fn line_of(said: &Result<Bounds, Refusal>) -> String {
     match said {
         Ok(Bounds { low, high }) => format!("rise {low} {high}\n"),
-        Err(Refusal { number, place }) => format!("refused {number} {}\n", place.number()),
+        Err(refusal) => format!("refused {} {}\n", refusal.number(), refusal.place.number()),
     }
 }
 

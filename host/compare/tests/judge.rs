@@ -2,7 +2,7 @@
 //! none of those beside it does.
 
 use compare::judge;
-use kechmowad::{sheet, Bounds, Cable, Place, Refusal};
+use kechmowad::{sheet, Bounds, Cable, Condition, Place, Refusal};
 
 /// Cable A of document 01.
 fn cable_a() -> Cable {
@@ -14,7 +14,8 @@ fn pair(low: i64, high: i64) -> Result<Bounds, Refusal> {
 }
 
 fn refused(number: u8, place: Place) -> Refusal {
-    Refusal { number, place }
+    let condition = Condition::of(number).expect("a number of the table");
+    Refusal { condition, place }
 }
 
 /// Sees that the right answer agrees and that every wrong one is told.

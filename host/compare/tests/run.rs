@@ -1,7 +1,7 @@
 //! A run: the same inputs for the same seed, and what it says where an answer disagrees.
 
 use compare::{check, program, Input, Random, Run};
-use kechmowad::{Bounds, Place, Refusal};
+use kechmowad::{Bounds, Condition, Place, Refusal};
 
 #[test]
 fn a_seed_stands_for_its_inputs() {
@@ -76,7 +76,12 @@ fn a_line_is_spelled_to_the_letter() {
     ] {
         assert!(program::spelled(line, &low).is_err(), "{line:?}");
     }
-    let told = |place| Err(Refusal { number: 8, place });
+    let told = |place| {
+        Err(Refusal {
+            condition: Condition::Order,
+            place,
+        })
+    };
     assert!(program::spelled("refused 8 1\n", &told(Place::Record(1))).is_ok());
     assert!(program::spelled("refused 8 0\n", &told(Place::None)).is_ok());
     assert!(program::spelled("refused 8 1\n", &told(Place::Record(2))).is_err());
