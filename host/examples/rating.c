@@ -1,10 +1,11 @@
 /*
- * The four calculations for cable A of document 01, and a refusal.
+ * The four calculations for cable A of document 01, and a refusal of each kind of place.
  *
  *     host/examples/run-c
  */
 #include <inttypes.h>
 #include <stdio.h>
+#include <string.h>
 
 #include "kechmowad.h"
 
@@ -46,10 +47,13 @@ static int refused(const int64_t answer[])
         [KECHMOWAD_RECORD] = "record",     [KECHMOWAD_HOUR] = "hour",
         [KECHMOWAD_INPUT] = "input",
     };
+    int64_t kind = answer[KECHMOWAD_PLACE_KIND];
     if (answer[KECHMOWAD_REFUSAL] == 0)
         return 0;
-    printf("refused %" PRId64 " at %s %" PRId64 "\n", answer[KECHMOWAD_REFUSAL],
-           kinds[answer[KECHMOWAD_PLACE_KIND]], answer[KECHMOWAD_PLACE]);
+    printf("refused %" PRId64 " at %s", answer[KECHMOWAD_REFUSAL], kinds[kind]);
+    if (kind != KECHMOWAD_NO_PLACE)
+        printf(" %" PRId64, answer[KECHMOWAD_PLACE]);
+    printf("\n");
     return 1;
 }
 
@@ -71,6 +75,7 @@ static void print_value(const char *name, const int64_t answer[], const char *un
 int main(void)
 {
     int64_t answer[KECHMOWAD_ANSWER_LENGTH];
+    uint32_t thin[KECHMOWAD_CABLE_LENGTH];
     uint16_t hours[24];
 
     kechmowad_share(cable, 60, answer);
@@ -87,7 +92,22 @@ int main(void)
     kechmowad_current(cable, 100, 100, 60, answer);
     print_value("emergency current", answer, "A");
 
+    memcpy(thin, cable, sizeof thin);
+    thin[KECHMOWAD_DIAMETER] = 99;
+    kechmowad_share(thin, 60, answer);
+    print_pair("cable of 9.9 mm", answer);
+
     kechmowad_rise(looping, sizeof looping, answer);
     print_pair("looping sheet", answer);
+
+    hours[5] = 4001;
+    kechmowad_factor(cable, hours, answer);
+    print_value("day with 4001 A", answer, "thousandths");
+
+    kechmowad_current(cable, 201, 100, 60, answer);
+    print_value("preload of 201 percent", answer, "A");
+
+    kechmowad_current(cable, 51, 25, 60, answer);
+    print_value("preload above the limit", answer, "A");
     return 0;
 }

@@ -1,4 +1,4 @@
-//! The four calculations for cable A of document 01, and a refusal.
+//! The four calculations for cable A of document 01, and a refusal of each kind of place.
 //!
 //!     cargo run --offline --manifest-path host/Cargo.toml --example rating
 
@@ -30,14 +30,31 @@ fn main() -> Result<(), Refusal> {
     let amperes = current(&CABLE, 100, 100, 60)?;
     println!("emergency current: {amperes} A");
 
+    let thin = Cable {
+        diameter: 99,
+        ..CABLE
+    };
+    print_refusal("cable of 9.9 mm", share(&thin, 60));
+
     // Record 1 leads to itself, so that the minutes do not fall.
     let looping = sheet(&CABLE, 300, 1, &[[30, 300, 1]]);
-    match rise(&looping) {
-        Ok(_) => println!("looping sheet: no refusal"),
+    print_refusal("looping sheet", rise(&looping));
+
+    let mut hours = [200; 24];
+    hours[5] = 4_001;
+    print_refusal("day with 4001 A", factor(&CABLE, &hours));
+
+    print_refusal("preload of 201 percent", current(&CABLE, 201, 100, 60));
+    print_refusal("preload above the limit", current(&CABLE, 51, 25, 60));
+    Ok(())
+}
+
+fn print_refusal<T>(name: &str, answer: Result<T, Refusal>) {
+    match answer {
+        Ok(_) => println!("{name}: no refusal"),
         Err(refusal) => {
             let (number, place) = (refusal.number(), refusal.place);
-            println!("looping sheet: refused {number} at {place}");
+            println!("{name}: refused {number} at {place}");
         }
     }
-    Ok(())
 }

@@ -33,12 +33,6 @@ inside b x m h k =
       to = lin-le x (b .high *ℤ pos m) (omega (arith, mul-lin (b .high) (pos m)));
     }
 
--- the same fraction with a larger denominator
-pub in-larger : {b : Bounds} {x : ℤ} {m : ℕ} (k : ℕ) → In b x m → In b (x *ℤ pos k) (m * k)
-in-larger {b} {x} {m} k i =
-    inside b (x *ℤ pos k) (m * k) (omega (arith, mul-le-mul-right k (in-low i), mul-lin x (pos k)))
-    (omega (arith, mul-le-mul-right k (in-high i), mul-lin x (pos k)))
-
 -- a natural fraction in a pair of natural numbers
 pub in-pair : (p : Pair) (x m : ℕ) → p .low * m ≤ x → x ≤ p .high * m → In (asBounds p) (pos x) m
 in-pair p x m h k = inside (asBounds p) (pos x) m (omega arith) (omega arith)

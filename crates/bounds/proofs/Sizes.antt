@@ -6,8 +6,7 @@ use lib.IntN.{ℤ, pos, natAbs, _*ℤ_}
 use lib.Signed.{_≤ℤ_}
 use mathlib.Core.Logic.{⊎-elim}
 use Rattle.numbers.proofs.Integers.{one-part, le-lin, size-lin, size-neg, size-add, size-mul, ≤ℤ-trans, lesser-left, lesser-right, greater-left, greater-right, lesser-both, greater-both}
-use Rattle.numbers.proofs.Rounding.{floor-size, ceil-size}
-use Rattle.bounds.specs.Operations.{addB, negB, mulB, timesB, dividedB, atMostB}
+use Rattle.bounds.specs.Operations.{addB, negB, mulB, timesB}
 use Rattle.bounds.specs.Promises.{Sized}
 use Rattle.bounds.specs.declared.Bounds.{Bounds}
 
@@ -52,17 +51,6 @@ times-sized {a} n s =
       low = size-product (a .low) (pos n) (s .low) (omega arith);
       high = size-product (a .high) (pos n) (s .high) (omega arith);
     }
-
-pub divided-sized : {k : ℕ} {a : Bounds} (d : ℕ) → Sized k a → Sized k (dividedB a d)
-unfolding dividedB
-divided-sized {a} d s =
-    record { low = omega (arith, floor-size (a .low) d, s .low); high = omega (arith, ceil-size (a .high) d, s .high) }
-
-pub at-most-sized : {k : ℕ} {a : Bounds} (t : ℤ) → natAbs t ≤ k → Sized k a → Sized k (atMostB a t)
-unfolding atMostB
-at-most-sized {k} t h s =
-    let P : ℤ → Type 0 = λ (z : ℤ). natAbs z ≤ k in
-    record { low = lesser-both P (s .low) h; high = lesser-both P (s .high) h }
 
 -- ---- the four products of ends, where the least and the greatest are known
 

@@ -2,7 +2,7 @@
 use mathlib.Core.Path.{_≡_, refl}
 use mathlib.Core.List.{[], _∷_}
 use Prim.Native.Nat.{ℕ}
-use Rattle.cable.specs.Checks.{cableFrom, checked, outsideField, inUse, defaultDiffusivity}
+use Rattle.cable.specs.Checks.{fields, cableFrom, checked, outsideField, inUse, defaultDiffusivity}
 use Rattle.cable.specs.declared.Cable.{Cable}
 use Rattle.cable.specs.declared.Place.the-variants.{None, Field}
 use Rattle.cable.specs.declared.CableCheck.{CableCheck}
@@ -22,11 +22,17 @@ cable d l s k w fast slow rated =
       rated = rated;
     }
 
--- eight numbers, handed over in table order
+-- eight numbers, handed over in table order: k is the fourth, w the fifth
 in-table-order :
     (d l s k w fast slow rated : ℕ) →
     cableFrom (d ∷ l ∷ s ∷ k ∷ w ∷ fast ∷ slow ∷ rated ∷ []) ≡ cable d l s k w fast slow rated
 in-table-order d l s k w fast slow rated = refl
+
+-- and back
+fields-in-table-order :
+    (d l s k w fast slow rated : ℕ) →
+    fields (cable d l s k w fast slow rated) ≡ d ∷ l ∷ s ∷ k ∷ w ∷ fast ∷ slow ∷ rated ∷ []
+fields-in-table-order d l s k w fast slow rated = refl
 
 abbrev refused-2 : ℕ → CableCheck
 refused-2 field = Refused (record { number = 2; place = Field field })
@@ -68,6 +74,15 @@ zero-slow-rate = refl
 zero-rated : checked (cable 500 1000 500 600000 500000 1000 100 0) ≡ refused-2 8
 unfolding checked outsideField
 zero-rated = refl
+
+-- more than one: k is refused at field 4, w at field 5
+large-ratio : checked (cable 500 1000 500 1000001 500000 1000 100 400) ≡ refused-2 4
+unfolding checked outsideField
+large-ratio = refl
+
+large-weight : checked (cable 500 1000 500 600000 1000001 1000 100 400) ≡ refused-2 5
+unfolding checked outsideField
+large-weight = refl
 
 -- the table's small examples
 small-diameter : checked (cable 99 1000 500 600000 500000 1000 100 400) ≡ refused-2 1

@@ -24,11 +24,11 @@ unfolding checked outsideField shareAnswer checkedHeader wrongLength cableOf big
 all-cases =
     -- C1 to C12
     refl ⨾ refl ⨾ C2 ⨾ C3 ⨾ C4 ⨾ C5 ⨾ C6 ⨾ C7 ⨾ C8 ⨾ C9 ⨾ C10 ⨾ refl ⨾ refl ⨾ refl
-    -- the small examples 1 to 13
-    ⨾ refl ⨾ refl ⨾ refl ⨾ refl ⨾ refl ⨾ refl ⨾ refl ⨾ refl ⨾ refl ⨾ refl ⨾ refl ⨾ refl ⨾ refl
+    -- the small examples 1 to 13, two of 12
+    ⨾ refl ⨾ refl ⨾ refl ⨾ refl ⨾ refl ⨾ refl ⨾ refl ⨾ refl ⨾ refl ⨾ refl ⨾ refl ⨾ refl ⨾ refl ⨾ refl
     -- the orders of the sheet, the share, the cycle and the emergency current
     ⨾ refl ⨾ refl ⨾ refl ⨾ refl ⨾ refl ⨾ refl ⨾ refl ⨾ refl
     ⨾ refl ⨾ refl
-    ⨾ refl ⨾ refl
+    ⨾ refl ⨾ refl ⨾ refl
     ⨾ refl ⨾ refl ⨾ refl ⨾ refl
     ⨾ all

@@ -3,3 +3,4 @@ pub mod Rises
 pub mod Factors
 pub mod Currents
 pub mod Claim
+pub mod Demands

@@ -21,13 +21,15 @@ use Rattle.exact.proofs.Share.{shareP, attainmentP, share-risesP, share-okP, at
 use Rattle.exact.proofs.ShareRange.{topOrder, share-below-oneP, bottomOrder, share-above-zeroP}
 use Rattle.exact.proofs.SignedShare.{share-plain}
 use Rattle.exact.proofs.Pairs.{most-millionths, least-millionths, around-exp, around-attainment, share-high-attainment, share-low-attainment}
-use Rattle.cable.specs.Checks.{inUse, defaultDiffusivity}
+use Rattle.cable.specs.Checks.{outsideField, checked, inUse, defaultDiffusivity}
 use Rattle.cable.specs.InRange.{numbersOf}
 use Rattle.bounds.specs.declared.Bounds.{Bounds}
 use Rattle.share.specs.Promises.{shareWidth, Promised}
 use Rattle.share.specs.Pair.{sharePair}
+use Rattle.share.specs.Answer.{shareAnswer}
 use Rattle.share.proofs.Promises.{share-promised}
-use Rattle.cases.specs.Table.{Meant, share-around, cableB, slowB}
+use Rattle.cases.specs.Table.{Meant, around, cableB, slowB}
+use Rattle.cases.specs.Table as Table
 
 million-above : (x : Frac) → 0F ≺ x → whole 0 ≺ whole 1000000 ⊗ x
 million-above x h = record { cross = omega (arith, h .cross) }
@@ -98,13 +100,30 @@ accepted-slow : Accepted (numbersOf (inUse defaultDiffusivity slowB)) 1
 unfolding inUse
 accepted-slow = omega arith
 
-pub C9 : Meant (share-around cableB 1 997521 997522)
-unfolding inUse _∸_
-C9 = let a = accepted-B 1 (omega arith) (omega arith) in let p = share-promised cableB 1 a in (low-under _ 1 a _ p refl 30 tt 997521 (below _ _ tt), high-over _ 1 a _ p refl 30 tt 997521 (below _ _ tt))
+pub C9 : Meant (around (Table.share cableB 1) 997521 997522)
+unfolding inUse _∸_ shareAnswer checked outsideField
+C9 =
+    let a = accepted-B 1 (omega arith) (omega arith) in
+    let p = share-promised cableB 1 a in
+    record {
+      low = sharePair cableB 1 .low;
+      high = sharePair cableB 1 .high;
+      given = refl;
+      low-to = low-under _ 1 a _ p refl 30 tt 997521 (below _ _ tt);
+      high-from = high-over _ 1 a _ p refl 30 tt 997521 (below _ _ tt);
+    }
 
-pub C10 : Meant (share-around slowB 1 59 60)
-unfolding inUse _∸_
-C10 = let p = share-promised slowB 1 accepted-slow in (low-under _ 1 accepted-slow _ p refl 4 tt 59 (below _ _ tt), high-over _ 1 accepted-slow _ p refl 4 tt 59 (below _ _ tt))
+pub C10 : Meant (around (Table.share slowB 1) 59 60)
+unfolding inUse _∸_ shareAnswer checked outsideField
+C10 =
+    let p = share-promised slowB 1 accepted-slow in
+    record {
+      low = sharePair slowB 1 .low;
+      high = sharePair slowB 1 .high;
+      given = refl;
+      low-to = low-under _ 1 accepted-slow _ p refl 4 tt 59 (below _ _ tt);
+      high-from = high-over _ 1 accepted-slow _ p refl 4 tt 59 (below _ _ tt);
+    }
 
 -- ---- B after so many minutes that less than 10^-8 of e^(−x) is left: rounded up, all of its share
 

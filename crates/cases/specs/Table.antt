@@ -1,10 +1,10 @@
--- Document 01, 'Cases' and 'When the desk is told no', in one table: the marked cases, the small example of each refusal, and for each two neighbours
--- of an order that some input can have both an input with both faults. `proofs/Claim` has the sole claim: every row holds.
+-- Document 01, 'Cases' and 'When the desk is told no', in one table: the marked cases, the small example of each refusal and one of 12 at its other input,
+-- and for each two neighbours of an order that some input can have both an input with both faults. `proofs/Claim` has the sole claim: every row holds.
 use mathlib.Core.Path.{_≡_}
 use mathlib.Core.Bool.{Bool, true, false}
 use mathlib.Core.List.{List, [], _∷_, _++_, map}
 use Prim.Native.Nat.{ℕ, _/_, _%_, _≤_}
-use lib.IntN.{pos}
+use lib.IntN.{ℤ, pos}
 use lib.ListN.{replicate, set, take}
 use lib.Signed.{_≤ℤ_}
 use Rattle.cable.specs.Checks.{fields}
@@ -12,7 +12,6 @@ use Rattle.cable.specs.Stated.{Stated, statedValues, statedRefusal}
 use Rattle.cable.specs.declared.Cable.{Cable}
 use Rattle.cable.specs.declared.Place.{Place}
 use Rattle.cable.specs.declared.Place.the-variants.{None, Field, Record, Hour, Input}
-use Rattle.share.specs.Pair.{sharePair}
 use Rattle.share.specs.Answer.{shareAnswer, statedShare}
 use Rattle.sheet.specs.Layout.{wrongLength}
 use Rattle.history.specs.Answer.{riseAnswer, statedRise}
@@ -42,21 +41,29 @@ pub data Says : Type 0 where
   gives : Question → Stated → Says
   -- the same for each number from the first to the second
   each-gives : ℕ → ℕ → (ℕ → Question) → Stated → Says
-  -- the share of a cable after some minutes has a low of at most the one number and a high of at least the other
-  share-around : Cable → ℕ → ℕ → ℕ → Says
+  -- a pair is answered, with a low of at most the one number and a high of at least the other
+  around : Question → ℕ → ℕ → Says
   -- whether so many bytes are refused by the length check
   length-refused : ℕ → Bool → Says
+
+-- what an answer states, and where its two values are
+pub record PairAround (stated : Stated) (low-most high-least : ℕ) : Type 0 where
+  pub low : ℤ
+  pub high : ℤ
+  pub given : stated ≡ statedValues (low ∷ high ∷ [])
+  pub low-to : low ≤ℤ pos low-most
+  pub high-from : pos high-least ≤ℤ high
 
 abbrev pub Meant : Says → Type 0
 Meant (gives question stated) = answer question ≡ stated
 Meant (each-gives first last question stated) = (n : ℕ) → first ≤ n → n ≤ last → answer (question n) ≡ stated
-Meant (share-around c minutes low-most high-least) = (sharePair c minutes .low ≤ℤ pos low-most) × (pos high-least ≤ℤ sharePair c minutes .high)
-Meant (length-refused length refused) = wrongLength length ≡ refused
+Meant (around question low-most high-least) = PairAround (answer question) low-most high-least
+Meant (length-refused bytes refused) = wrongLength bytes ≡ refused
 
 pub data Name : Type 0 where
   -- C1 to C12
   C : ℕ → Name
-  -- a refusal's small example
+  -- an example of a refusal
   example : ℕ → Name
   -- both faults in one input, answered by the first
   before : ℕ → ℕ → Name
@@ -166,8 +173,8 @@ table =
     ∷ row (C 6) (any-minutes (current cableA 50 25) (values (200 ∷ [])))
     ∷ row (C 7) (any-minutes (current cableA 51 25) (refusal 13 None))
     ∷ row (C 8) (any-minutes (current (ratedA 401) 50 25) (values (200 ∷ [])))
-    ∷ row (C 9) (share-around cableB 1 997521 997522)
-    ∷ row (C 10) (share-around slowB 1 59 60)
+    ∷ row (C 9) (around (share cableB 1) 997521 997522)
+    ∷ row (C 10) (around (share slowB 1) 59 60)
     ∷ row (C 11) (gives (rise (sheet cableA (300 ∷ 1 ∷ 30 ∷ 300 ∷ 1 ∷ []))) (refusal 8 (Record 1)))
     ∷ row (C 12) (length-refused 324 false)
     ∷ row (C 12) (length-refused 330 true)
@@ -184,6 +191,7 @@ table =
     ∷ row (example 10) (gives (factor cableA (oneHour 5 4001)) (refusal 10 (Hour 5)))
     ∷ row (example 11) (gives (factor cableA (replicate 24 0)) (refusal 11 None))
     ∷ row (example 12) (gives (current cableA 201 100 60) (refusal 12 (Input 1)))
+    ∷ row (example 12) (gives (current cableA 100 0 60) (refusal 12 (Input 2)))
     ∷ row (example 13) (gives (current cableA 51 25 60) (refusal 13 None))
     -- Order. Sheet: 1, 2, 3, 4, then for each record in turn 5, 6, 7, 8. A link above n leads to no record, so 5 and 6 are never both to be said of one.
     ∷ row (before 1 2) (gives (rise (take 35 (sheet thinA (300 ∷ 0 ∷ [])))) (refusal 1 None))
@@ -198,9 +206,10 @@ table =
     -- Share: 2, 3, 9
     ∷ row (before 2 3) (gives (share thinSlowerA 60) (refusal 2 (Field 1)))
     ∷ row (before 3 9) (gives (share slowerA 2881) (refusal 3 None))
-    -- Cycle: 2, 3, 10, 11. Hours with one above 4,000 A are not all 0, so 10 and 11 never meet.
+    -- Cycle: 2, 3, 10, 11. Hours with one above 4,000 A are not all 0, so 10 and 11 never meet, and 11 comes next to 3 as well.
     ∷ row (before 2 3) (gives (factor thinSlowerA (replicate 24 200)) (refusal 2 (Field 1)))
     ∷ row (before 3 10) (gives (factor slowerA (oneHour 5 4001)) (refusal 3 None))
+    ∷ row (before 3 11) (gives (factor slowerA (replicate 24 0)) (refusal 3 None))
     -- Emergency: 2, 3, 9, 12, 13
     ∷ row (before 2 3) (gives (current thinSlowerA 100 100 60) (refusal 2 (Field 1)))
     ∷ row (before 3 9) (gives (current slowerA 100 100 2881) (refusal 3 None))

@@ -1,5 +1,5 @@
 -- The answer of a cyclic factor in each of its ways out, and the shares that are given at whole hours.
-use mathlib.Core.Path.{_≡_, _∙_}
+use mathlib.Core.Path.{_≡_, ap, _∙_}
 use mathlib.Core.Bool.{true, false}
 use mathlib.Core.List.{List}
 use Prim.Native.Nat.{ℕ, suc, _+_, _*_, _≤_, _<_}
@@ -73,7 +73,9 @@ module _ (cable : Cable) (hours : List ℕ) where
       unfolding factorAnswer factorFrom
       factor-given z q =
           let some : allZero hours ≡ false = one-loaded hours (referenceHour hours) z in
-          q ∙ rw (accepted-is cable c e, e, factorAnswer, factorFrom, ← p, le-ltb k dayHours none, some)
+          q
+          ∙ ap (λ (x : Cable). Factor (largestFactor (heatingSum (hourPair x) hours (referenceHour hours)))) (accepted-is cable c e)
+          ∙ rw (e, factorAnswer, factorFrom, ← p, le-ltb k dayHours none, some)
 
       pub ready : {hour : ℕ} → 0 < highestLoad hours → hour < dayHours → Ready c hours hour
       ready z h = record { accepted = rw (accepted-is cable c e) (rw (accepted-is cable c e) at e); loaded = z; of-day = h }

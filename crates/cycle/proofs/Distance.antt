@@ -68,9 +68,10 @@ module _ (width : ℕ) (shares : ℕ → Value) (pairs : ℕ → Bounds) (each :
         let held = sum-held heatingHours (le-refl heatingHours) in
         around-divided (commonDivisor hours) zd (held .sound) (held .around)
 
+    -- whatever more `sumWidth` were to allow: `sum-width-is` and a worked example hold it
     heating-spread : Spread (sumWidth width) (heatingBounds pairs hours hour)
     unfolding heatingBounds
-    heating-spread = spread-quotient zd (heatingHours * width) (sum-held heatingHours (le-refl heatingHours) .spread)
+    heating-spread = spread-more (omega arith) (spread-quotient zd (heatingHours * width) (sum-held heatingHours (le-refl heatingHours) .spread))
 
     -- the rounded sum is at least T, and at most T + 6·width + 1
     pub sum-at-least : AtLeast (ofInt (heatingSum pairs hours hour)) (exactHeating shares hours hour)

@@ -4,3 +4,4 @@ pub mod FactorTest
 pub mod Answers
 pub mod Distance
 pub mod Said
+pub mod NotNegative

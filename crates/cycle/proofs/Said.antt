@@ -1,27 +1,29 @@
 -- What is promised of an answer follows from the answer: a factor that is given is the distance of document 01, 'What the distances say', from the exact one.
 use mathlib.Core.Path.{_≡_, refl, sym, ap, subst, _∙_}
 use mathlib.Core.Bool.{Bool, true, false, cond}
-use mathlib.Core.List.{List}
+use mathlib.Core.List.{List, [], _∷_}
 use Prim.Native.Nat.{ℕ, suc, _*_, _<_}
 use native.Mathlib.Omega.{arith}
 use lib.Dec.{T, ltb}
+use lib.IntN.{pos}
 use lib.ListN.{length}
 use Rattle.exact.specs.Value.{fromOne}
 use Rattle.exact.specs.Share.{Accepted}
 use Rattle.cable.specs.Checks.{checked, inUse, defaultDiffusivity}
 use Rattle.cable.specs.InRange.{numbersOf}
-use Rattle.cable.specs.Stated.{statedCheck}
+use Rattle.cable.specs.Stated.{statedValues, statedCheck}
 use Rattle.cable.specs.declared.Cable.{Cable}
 use Rattle.cable.specs.declared.CableCheck.{CableCheck}
 use Rattle.cable.specs.declared.CableCheck.the-variants as C
-use Rattle.cable.proofs.Acceptance.{accepted-in-range}
+use Rattle.cable.proofs.Acceptance.{accepted-in-range, accepted-is}
+use Rattle.cable.proofs.Stated.{same-values, no-values}
 use Rattle.share.specs.Promises.{shareWidth, exactShare}
 use Rattle.distance.proofs.Enclosed.{Enclosed, share-enclosed, exact-share-bounds}
 use Rattle.cycle.specs.Day.{dayHours, highestLoad, referenceHour}
 use Rattle.cycle.specs.Heating.{heatingHours, heatingSum}
 use Rattle.cycle.specs.Factor.{largestFactor}
 use Rattle.cycle.specs.Exact.{exactHeating, FactorDistance}
-use Rattle.cycle.specs.Answer.{firstAbove, allZero, refused10, refused11, factorFrom, afterChecks, hourPair, factorAnswer, FactorSaid}
+use Rattle.cycle.specs.Answer.{firstAbove, allZero, refused10, refused11, factorFrom, afterChecks, hourPair, factorAnswer, statedFactor, FactorSaid}
 use Rattle.cycle.specs.declared.FactorAnswer.{FactorAnswer}
 use Rattle.cycle.specs.declared.FactorAnswer.the-variants.{Factor, Refused}
 use Rattle.cycle.proofs.Day.{highest-zero}
@@ -29,15 +31,14 @@ use Rattle.cycle.proofs.Heating.{divisor-above-zero}
 use Rattle.cycle.proofs.Distance.{factor-distance, heating-bounds}
 
 module _ (cable : Cable) {c : Cable} (e : checked cable ≡ C.Accepted c) where
-  hour-accepted : (i : ℕ) → i < heatingHours → Accepted (numbersOf (inUse defaultDiffusivity cable)) (60 * suc i)
+  pub hour-accepted : (i : ℕ) → i < heatingHours → Accepted (numbersOf (inUse defaultDiffusivity cable)) (60 * suc i)
   hour-accepted i h = record { cable = accepted-in-range cable (ap (λ a. statedCheck a .number) e) .numbers; minutes-from = omega arith; minutes-to = omega arith }
 
   hour-enclosed : (i : ℕ) → i < heatingHours → Enclosed shareWidth (exactShare cable (60 * suc i)) (hourPair cable (suc i))
   hour-enclosed i h = share-enclosed cable (60 * suc i) (hour-accepted i h)
 
-  -- every order from 1 gives bounds of the exact sum
-  pub exact-heating-bounds : (hours : List ℕ) (hour : ℕ) → 0 < highestLoad hours → (n : ℕ) → T (fromOne n) → T (exactHeating (exactShare cable) hours hour .ok n)
-  exact-heating-bounds hours hour z n t =
+  day-bounds : (hours : List ℕ) (hour : ℕ) → 0 < highestLoad hours → (n : ℕ) → T (fromOne n) → T (exactHeating (exactShare cable) hours hour .ok n)
+  day-bounds hours hour z n t =
       heating-bounds (exactShare cable) n (λ i h. exact-share-bounds cable (60 * suc i) (hour-accepted i h) n t) hours hour (divisor-above-zero hours z)
 
 -- an array of a day that is not all 0 has an hour with a load
@@ -48,19 +49,41 @@ some-load hours l e = not-zero (highestLoad hours) (λ z. let all : allZero hour
     not-zero n h = omega arith
 
 -- a factor is given only where the cable and the hours are accepted
+record Given (cable : Cable) (hours : List ℕ) (m : ℕ) : Type 0 where
+  accepted : checked cable ≡ C.Accepted cable
+  loaded : 0 < highestLoad hours
+  largest-is : largestFactor (heatingSum (hourPair cable) hours (referenceHour hours)) ≡ m
+
 module _ (cable : Cable) (hours : List ℕ) (l : length hours ≡ dayHours) {m : ℕ} where
   given : (a : CableCheck) (t u : Bool) → checked cable ≡ a → allZero hours ≡ u
       → afterChecks a (cond t (Refused (refused10 (firstAbove 0 hours))) (cond u (Refused refused11) (Factor (largestFactor (heatingSum (hourPair cable) hours (referenceHour hours)))))) ≡ Factor m
-      → FactorDistance shareWidth (exactHeating (exactShare cable) hours (referenceHour hours)) m
+      → Given cable hours m
   given (C.Refused f) t u ea eu e = let z : _≡_ {A = ℕ} 0 1 = cc in absurd (omega arith)
   given (C.Accepted c) true u ea eu e = let z : _≡_ {A = ℕ} 0 1 = cc in absurd (omega arith)
   given (C.Accepted c) false true ea eu e = let z : _≡_ {A = ℕ} 0 1 = cc in absurd (omega arith)
-  given (C.Accepted c) false false ea eu e =
-      let i : largestFactor (heatingSum (hourPair cable) hours (referenceHour hours)) ≡ m = cc in
-      subst (λ (k : ℕ). FactorDistance shareWidth (exactHeating (exactShare cable) hours (referenceHour hours)) k) i
-      (factor-distance shareWidth (exactShare cable) (hourPair cable) (hour-enclosed cable ea) hours (referenceHour hours) (divisor-above-zero hours (some-load hours l eu)))
+  given (C.Accepted c) false false ea eu e = record { accepted = ea ∙ ap C.Accepted (accepted-is cable c ea); loaded = some-load hours l eu; largest-is = cc }
+
+  factor-given : factorAnswer cable hours ≡ Factor m → Given cable hours m
+  unfolding factorAnswer factorFrom
+  factor-given e = given (checked cable) (ltb (firstAbove 0 hours) dayHours) (allZero hours) refl refl e
+
+  given-distance : Given cable hours m → FactorDistance shareWidth (exactHeating (exactShare cable) hours (referenceHour hours)) m
+  given-distance g =
+      subst (λ (k : ℕ). FactorDistance shareWidth (exactHeating (exactShare cable) hours (referenceHour hours)) k) (g .largest-is)
+      (factor-distance shareWidth (exactShare cable) (hourPair cable) (hour-enclosed cable (g .accepted)) hours (referenceHour hours) (divisor-above-zero hours (g .loaded)))
+
+  -- every order from 1 gives bounds of the exact sum that a factor is held against
+  pub exact-heating-bounds : factorAnswer cable hours ≡ Factor m → (n : ℕ) → T (fromOne n) → T (exactHeating (exactShare cable) hours (referenceHour hours) .ok n)
+  exact-heating-bounds e n t = let g = factor-given e in day-bounds cable (g .accepted) hours (referenceHour hours) (g .loaded) n t
+
+-- every factor is stated
+stated-itself : (m : ℕ) → statedFactor (Factor m) ≡ statedValues (pos m ∷ [])
+stated-itself m = refl
+
+-- one value is stated of a factor alone
+reported : (r : FactorAnswer) {m : ℕ} → statedFactor r ≡ statedValues (pos m ∷ []) → r ≡ Factor m
+reported (Factor k) e = let only = same-values (sym (stated-itself k) ∙ e) in cc
+reported (Refused f) e = absurd (no-values f e)
 
 pub said : {cable : Cable} {hours : List ℕ} {r : FactorAnswer} → length hours ≡ dayHours → r ≡ factorAnswer cable hours → FactorSaid cable hours r
-unfolding factorAnswer factorFrom
-said {cable} {hours} l e =
-    record { answer = e; distance = λ m q. given cable hours l (checked cable) (ltb (firstAbove 0 hours) dayHours) (allZero hours) refl refl (sym e ∙ q) }
+said {cable} {hours} {r} l e = record { answer = e; distance = λ m q. given-distance cable hours l (factor-given cable hours l (sym e ∙ reported r q)) }

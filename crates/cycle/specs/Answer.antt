@@ -69,4 +69,4 @@ statedFactor (Refused f) = statedRefusal f
 -- the answer, and how far a factor may be from the exact one: 'What the distances say'
 pub record FactorSaid (cable : Cable) (hours : List ℕ) (r : FactorAnswer) : Type 0 where
   pub answer : r ≡ factorAnswer cable hours
-  pub distance : (m : ℕ) → r ≡ Factor m → FactorDistance shareWidth (exactHeating (exactShare cable) hours (referenceHour hours)) m
+  pub distance : (m : ℕ) → statedFactor r ≡ statedValues (pos m ∷ []) → FactorDistance shareWidth (exactHeating (exactShare cable) hours (referenceHour hours)) m

@@ -3,19 +3,27 @@
 use mathlib.Core.Path.{_≡_, refl}
 use mathlib.Core.List.{List, [], _∷_}
 use Prim.Native.Nat.{ℕ, zero, suc}
+use native.Mathlib.Omega.{arith}
+use lib.Dec.{le→leb}
 use lib.IntN.{pos}
+use Rattle.numbers.specs.Fraction.{whole}
+use Rattle.numbers.specs.Signed.{maxS, minS}
 use Rattle.numbers.specs.Integer.{lesser, greater}
 use Rattle.numbers.specs.Rounding.{floorZ, ceilZ}
 use Rattle.numbers.specs.Largest.{largest}
 use Rattle.bounds.specs.Operations.{addB, mulB, dividedB}
 use Rattle.bounds.specs.declared.Bounds.{Bounds}
+use Rattle.exact.specs.Value.{number}
 use Rattle.cable.specs.Stated.{no-place, an-hour}
+use Rattle.cable.specs.declared.Cable.{Cable}
 use Rattle.cable.specs.declared.CableCheck.the-variants as C
 use Rattle.cable.specs.declared.Place.the-variants.{None}
+use Rattle.share.specs.Pair.{sharePair}
 use Rattle.cycle.specs.Day.{referenceHour, latestHighest, earlier, squaredLoads}
 use Rattle.cycle.specs.Heating.{relativeLoad, gatheredBounds, heatingBounds, heatingSum}
 use Rattle.cycle.specs.Factor.{allowed, largestFactor}
-use Rattle.cycle.specs.Answer.{refused10, refused11, factorFrom, afterChecks, statedFactor}
+use Rattle.cycle.specs.Exact.{FactorDistance}
+use Rattle.cycle.specs.Answer.{hourPair, refused10, refused11, factorFrom, afterChecks, statedFactor}
 use Rattle.cycle.specs.declared.FactorAnswer.the-variants.{Factor, Refused}
 
 -- n hours of x amperes, then the rest
@@ -123,6 +131,36 @@ nearly-even : factorFrom nearly (of 1 400 (of 23 0 [])) ≡ Factor 999
 unfolding factorFrom heatingBounds gatheredBounds relativeLoad squaredLoads latestHighest addB mulB dividedB floorZ ceilZ lesser greater largest allowed
 nearly-even = refl
 
+-- ---- the distance
+
+-- an exact sum of 1: the exact factor is 1,000 thousandths
+abbrev Near : ℕ → Type 0
+Near m = FactorDistance 50 (number (whole 1000000)) m
+
+-- 5,000²·10^6 and 1,001²·10^6 are above 10^12
+cap-not-near : Near 5000 → ⊥
+unfolding maxS minS
+cap-not-near d = le→leb _ _ (d .not-above .least 1 tt .le .cross)
+
+above-not-near : Near 1001 → ⊥
+unfolding maxS minS
+above-not-near d = le→leb _ _ (d .not-above .least 1 tt .le .cross)
+
+-- 999²·(10^6 + 301) is below 10^12
+below-not-near : Near 998 → ⊥
+unfolding maxS minS
+below-not-near d = le→leb _ _ (d .larger-above (omega arith) 999 (omega arith) .most 1 tt .le .cross)
+
+-- 5,000²·(39,699 + 301) is 10^12 and no more: 5,000 is asked of a factor of 4,999
+under-the-cap : FactorDistance 50 (number (whole 39699)) 4999 → ⊥
+unfolding maxS minS
+under-the-cap d = le→leb _ _ (d .larger-above (omega arith) 5000 (omega arith) .most 1 tt .le .cross)
+
+-- ---- "G at whole hours"
+
+two-hours : (cable : Cable) → hourPair cable 2 ≡ sharePair cable 120
+two-hours cable = refl
+
 -- ---- refusals
 
 -- "hour 5 with 4,001"
@@ -153,8 +191,8 @@ check-first = refl
 
 -- ---- the paper's numbers
 
-stated-factor : statedFactor (Factor 999) ≡ record { number = 0; kind = no-place; place = 0; values = pos 999 ∷ [] }
-stated-factor = refl
+stated-factor : (m : ℕ) → statedFactor (Factor m) ≡ record { number = 0; kind = no-place; place = 0; values = pos m ∷ [] }
+stated-factor m = refl
 
 stated-10 : statedFactor (Refused (refused10 0)) ≡ record { number = 10; kind = an-hour; place = 0; values = [] }
 stated-10 = refl

@@ -1,21 +1,16 @@
 -- What a distance asks of the shares' pairs, for any width and any exact shares; and the program's pairs have it, of width 50, around the exact G.
 use Prim.Native.Nat.{ℕ}
-use native.Mathlib.Nat.{le-refl}
 use lib.Dec.{T}
-use Rattle.numbers.specs.Fraction.{whole}
-use Rattle.numbers.specs.Signed.{ofFrac}
-use Rattle.numbers.proofs.SignedFractions.{refl≼ₛ}
 use Rattle.bounds.specs.declared.Bounds.{Bounds}
 use Rattle.exact.specs.Value.{Value, _⊴_, fromOne}
 use Rattle.exact.specs.Share.{Accepted}
-use Rattle.exact.proofs.Values.{constant⊴, mul⊴}
-use Rattle.exact.proofs.SignedShare.{share-rises, share-bounds}
+use Rattle.exact.proofs.SignedShare.{share-bounds}
 use Rattle.cable.specs.Checks.{inUse, defaultDiffusivity}
 use Rattle.cable.specs.InRange.{numbersOf}
 use Rattle.cable.specs.declared.Cable.{Cable}
 use Rattle.share.specs.Pair.{sharePair}
 use Rattle.share.specs.Promises.{Promised, exactShare, shareWidth}
-use Rattle.share.proofs.Promises.{share-promised}
+use Rattle.share.proofs.Promises.{share-promised, exact-share-sound}
 use Rattle.distance.specs.Around.{Around}
 use Rattle.distance.proofs.Spread.{Spread}
 
@@ -32,10 +27,7 @@ enclosed-spread e = record { narrow = e .promised .narrow }
 
 module _ (cable : Cable) (minutes : ℕ) (a : Accepted (numbersOf (inUse defaultDiffusivity cable)) minutes) where
   pub share-enclosed : Enclosed shareWidth (exactShare cable minutes) (sharePair cable minutes)
-  share-enclosed = record {
-    sound = mul⊴ (constant⊴ (refl≼ₛ (ofFrac (whole 1000000)))) (share-rises (numbersOf (inUse defaultDiffusivity cable)) minutes minutes a a (le-refl minutes));
-    promised = share-promised cable minutes a;
-  }
+  share-enclosed = record { sound = exact-share-sound cable minutes a; promised = share-promised cable minutes a }
 
   -- every order from 1 gives bounds of the exact share in millionths
   pub exact-share-bounds : (n : ℕ) → T (fromOne n) → T (exactShare cable minutes .ok n)

@@ -1,10 +1,10 @@
 -- A limit above an exact value, through a sum with an integer and a quotient by a whole number, in both directions.
 use mathlib.Core.Bool.{true}
 use mathlib.Core.List.{[], _∷_}
-use Prim.Native.Nat.{ℕ, _+_, _*_, _<_}
+use Prim.Native.Nat.{ℕ, _<_}
 use lib.IntN.{ℤ, pos, _+ℤ_, _*ℤ_}
 use lib.Signed.{≤ℤ-refl}
-use Rattle.numbers.specs.Fraction.{_≼_, whole}
+use Rattle.numbers.specs.Fraction.{whole}
 use Rattle.numbers.specs.Signed.{Signed, _≼ₛ_, _≈ₛ_, ofFrac, ofInt, addS, mulS}
 use Rattle.numbers.proofs.FractionProver.{qv, qn, _+'_, _*'_, q-le, q-from, le, eq}
 use Rattle.numbers.proofs.SignedFractions.{refl≼ₛ, trans≼ₛ, add≼ₛ, min-is, above-least}

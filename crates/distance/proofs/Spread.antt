@@ -214,6 +214,15 @@ module _ (n : ℕ) where
         (trans≼ₛ (times-up (ofInt (pos n)) (x .low k) (ofInt a) not-below (h .least k t)) (ofInt-mul (pos n) a .from));
   }
 
+  -- no lower fraction of x exceeding an upper one of y, none of n·x exceeds one of n·y
+  pub times⊴ : {x y : Value} → x ⊴ x → y ⊴ y → x ⊴ y → (integer (pos n) ·ᵥ x) ⊴ (integer (pos n) ·ᵥ y)
+  times⊴ {x} {y} p q h = record {
+    apart = λ k m s t.
+        trans≼ₛ (above-least (ofInt (pos n)) (ofInt (pos n)) (x .low k) (x .high k) (ofInt (pos n)) (x .low k) only (record { from = refl≼ₛ (x .low k); to = p .apart k k s s }))
+        (trans≼ₛ (times-up (ofInt (pos n)) (x .low k) (y .high m) not-below (h .apart k m s t))
+        (below-most (ofInt (pos n)) (ofInt (pos n)) (y .low m) (y .high m) (ofInt (pos n)) (y .high m) only (record { from = q .apart m m t t; to = refl≼ₛ (y .high m) })));
+  }
+
 -- ---- no order is lost where a value is divided by a whole number above 0
 pub quotient-bounds : (d : ℕ) → 0 < d → (x : Value) (n : ℕ) → T (x .ok n) → T ((x /ᵥ number (whole d)) .ok n)
 unfolding _∸_

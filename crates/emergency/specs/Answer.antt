@@ -59,5 +59,5 @@ statedCurrent (Refused f) = statedRefusal f
 
 pub record CurrentSaid (cable : Cable) (h r minutes : ℕ) (a : CurrentAnswer) : Type 0 where
   pub answer : a ≡ currentAnswer cable h r minutes
-  -- 'What the distances say', of every current that is reported
-  pub distance : (i : ℕ) → a ≡ Current i → CurrentDistance shareWidth (cable .rated) h r (exactShare cable minutes) i
+  -- 'What the distances say', of every current that is stated
+  pub distance : (i : ℕ) → statedCurrent a ≡ statedValues (pos i ∷ []) → CurrentDistance shareWidth (cable .rated) h r (exactShare cable minutes) i

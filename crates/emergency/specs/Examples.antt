@@ -4,13 +4,19 @@ use mathlib.Core.Path.{_≡_, refl}
 use mathlib.Core.Bool.{true, false}
 use mathlib.Core.List.{[], _∷_}
 use Prim.Native.Nat.{ℕ}
+use native.Mathlib.Omega.{arith}
+use lib.Dec.{le→leb}
 use lib.IntN.{pos}
+use Rattle.numbers.specs.Fraction.{whole}
+use Rattle.numbers.specs.Signed.{maxS, minS}
 use Rattle.numbers.specs.Largest.{largest}
 use Rattle.bounds.specs.declared.Bounds.{Bounds}
+use Rattle.exact.specs.Value.{number}
 use Rattle.cable.specs.Stated.{no-place, an-input}
 use Rattle.share.specs.Answer.{refused9}
 use Rattle.share.specs.declared.ShareAnswer.the-variants as S
 use Rattle.emergency.specs.Certifying.{certified}
+use Rattle.emergency.specs.Exact.{CurrentDistance}
 use Rattle.emergency.specs.Answer.{refused12, refused13, currentFrom, afterShare, statedCurrent}
 use Rattle.emergency.specs.declared.CurrentAnswer.the-variants.{Current, Refused}
 
@@ -41,6 +47,30 @@ from-the-high-share = refl
 nothing-attained : currentFrom 400 75 120 (pair 0 0) ≡ Current 10000
 unfolding currentFrom largest certified
 nothing-attained = refl
+
+-- ---- the distance
+
+-- the rated current and an exact share of 340,186 millionths: nothing is left up to the limit, so 400 A is the exact answer
+abbrev Near : ℕ → Type 0
+Near i = CurrentDistance 50 400 100 100 (number (whole 340186)) i
+
+cap-not-near : Near 10000 → ⊥
+unfolding maxS minS
+cap-not-near d = le→leb _ _ (d .keeps .least 1 tt .le .cross)
+
+above-not-near : Near 401 → ⊥
+unfolding maxS minS
+above-not-near d = le→leb _ _ (d .keeps .least 1 tt .le .cross)
+
+-- 400 A, larger, does not break it
+below-not-near : Near 399 → ⊥
+unfolding maxS minS
+below-not-near d = le→leb _ _ (d .larger-breaks (omega arith) 400 (omega arith) .most 1 tt .le .cross)
+
+-- a share of 350 millionths and 50 more: with 10,000 A both sides are 4·10^14, so 10,000 A is asked of a current of 9,999 A
+under-the-cap : CurrentDistance 50 2000 0 1 (number (whole 350)) 9999 → ⊥
+unfolding maxS minS
+under-the-cap d = le→leb _ _ (d .larger-breaks (omega arith) 10000 (omega arith) .most 1 tt .le .cross)
 
 -- ---- 13: h² against 100·r
 
@@ -97,8 +127,8 @@ limit-before-heat = refl
 
 -- ---- the paper's numbers
 
-stated-current : statedCurrent (Current 710) ≡ record { number = 0; kind = no-place; place = 0; values = pos 710 ∷ [] }
-stated-current = refl
+stated-current : (i : ℕ) → statedCurrent (Current i) ≡ record { number = 0; kind = no-place; place = 0; values = pos i ∷ [] }
+stated-current i = refl
 
 stated-12 : statedCurrent (Refused (refused12 2)) ≡ record { number = 12; kind = an-input; place = 2; values = [] }
 stated-12 = refl

@@ -76,29 +76,6 @@ below-zero x = record { under = λ m. q-le (expSum x m ∷ []) (qn 0 *' qv 0) (q
 pub above-one : (x : Frac) → Above 1F x
 above-one x = record { order = 0; reaches = q-le [] (qn 1) (qn 1 *' qn 1) tt }
 
-pub below-lower : (x : Frac) (n : ℕ) → whole 2 ⊗ x ≼ whole n → Below (1F ÷ expSumOver x n) x
-below-lower x n k = record {
-  under = λ m. q-from ((1F ÷ expSumOver x n) ∷ expSum x m ∷ expSumOver x n ∷ []) (le (qv 0) (qv 1) (qv 2) ∷ eq (qn 1) (qn 0) (qv 0 *' qv 2) (qn 1) ∷ []) (qv 0 *' qv 1) (qn 1) tt
-      (sum-over m n (refl≼ x) k) (expSumOver-inv x n);
-}
-
-pub above-upper : (x : Frac) (n : ℕ) → Above (1F ÷ expSum x n) x
-above-upper x n = record { order = n; reaches = expSum-inv x n .from }
-
-pub below-low : (x : Frac) (n : ℕ) → Below (expLow x n) x
-below-low x n = go (enough x n) (enough-is x n)
-  where
-    go : (b : Bool) → (T b → whole 2 ⊗ x ≼ whole n) → Below (elim b [ true ↦ (1F ÷ expSumOver x n) | false ↦ 0F ]) x
-    go true k = below-lower x n (k tt)
-    go false k = below-zero x
-
-pub above-high : (x : Frac) (n : ℕ) → Above (expHigh x n) x
-above-high x n = go (enough x n)
-  where
-    go : (b : Bool) → Above (elim b [ true ↦ (1F ÷ expSum x n) | false ↦ 1F ]) x
-    go true = above-upper x n
-    go false = above-one x
-
 -- ---- powers: a bound of e^(-x) gives one of e^(-k·x)
 times-next : (x : Frac) (k : ℕ) → whole (suc k) ⊗ x ≈ whole k ⊗ x ⊕ x
 times-next x k = omega arith

@@ -6,7 +6,6 @@ use Rattle.numbers.specs.Fraction.{Frac, _≼_, _≈_, _per_, whole, 0F, 1F, _�
 use Rattle.numbers.proofs.Fractions.{refl≼, trans≼, mul≼, ÷≼}
 use Rattle.numbers.proofs.FractionProver.{qv, qn, _*'_, q-le}
 use Rattle.numbers.proofs.Sums.{sum≼}
-use Rattle.numbers.proofs.Strict.{half}
 use Rattle.exact.specs.Cutting.{cutAt, lnHigh, lnLow}
 use Rattle.exact.proofs.Exponential.{high-one, expSum-zero, low-zero}
 use Rattle.exact.proofs.Cutting.{cut-above}

@@ -17,7 +17,6 @@ use Rattle.exact.proofs.Plain.{Plain, _⊴ₚ_, and-0, and-1, known, ad
 use Rattle.exact.proofs.Values.{lift}
 use Rattle.exact.proofs.Parts.{expP}
 use Rattle.exact.proofs.Certified.{Below, Above, below-high, above-low}
-use Rattle.exact.proofs.Slices.{none}
 use Rattle.exact.proofs.Lifting.{_≐_, refl≐, trans≐, sym≐, most-same, least-same, mul≐, lift-mul}
 use Rattle.exact.proofs.Share.{attainmentP, betaP, surfaceP, shareP}
 

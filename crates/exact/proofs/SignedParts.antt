@@ -10,7 +10,7 @@ use Rattle.numbers.proofs.Subtraction.{less-on, less-exact}
 use Rattle.numbers.proofs.SignedFractions.{ofFrac≼}
 use Rattle.exact.specs.Value.{AtMost, AtLeast, _⊴_, Fine, expNeg, integral, ln}
 use Rattle.exact.proofs.Values.{lift, lift⊴, at-least-join, at-most-join, fine-lift}
-use Rattle.exact.proofs.Parts.{lnP, from-one-is, exp⊴ₚ, fineP-exp, integral⊴ₚ, ln⊴ₚ, integral⊴ln, fineP-integral, fineP-ln}
+use Rattle.exact.proofs.Parts.{lnP, from-one-is, exp⊴ₚ, integral⊴ₚ, ln⊴ₚ, integral⊴ln, fineP-integral, fineP-ln}
 use Rattle.exact.proofs.Certified.{Above}
 use Rattle.exact.proofs.Slices.{Slice, All, more, Adjacent, next, total, near-far, to-same}
 use Rattle.exact.proofs.Enclosure.{lowArea, highArea, Lower, Upper, heatExponent, integral-over}
@@ -28,9 +28,6 @@ pub ln-apart : (r : Frac) → ln r ⊴ ln r
 ln-apart r = lift⊴ (ln⊴ₚ 1F (r ∸ 1F) 1F (r ∸ 1F) one-above one-above (refl≼ ((r ∸ 1F) ⊗ 1F)))
 
 -- ---- from some order on bounds at most e apart
-pub fine-exp : (x : Frac) → Fine (expNeg x)
-fine-exp x = fine-lift (fineP-exp x)
-
 pub fine-integral : (p q : Frac) → 0 < p .num → Fine (integral p q)
 fine-integral p q zp = fine-lift (fineP-integral p (q ∸ p) zp)
 

@@ -65,6 +65,15 @@ at-most-join {a} {x} {y} h f k = record {
       (trans≼ₛ (f .gap e z (f .order e z) (omega arith)) (add≼ₛ (h .apart (f .order e z) n (f .bounds e z (f .order e z) (omega arith)) s) (refl≼ₛ (ofFrac e)))));
 }
 
+-- .. and what is at most x is at most what is at least y
+pub most-to-least : {a b : Signed} {x y : Value} → x ⊴ y → Fine x → Fine y → AtMost a x → AtLeast b y → a ≼ₛ b
+most-to-least {a} {b} h f g p q =
+    withinₛ a b
+    (λ e z.
+    let n = g .order e z in
+    let t = g .bounds e z n (omega arith) in
+    trans≼ₛ (at-most-join h f p .most n t) (trans≼ₛ (g .gap e z n (omega arith)) (add≼ₛ (q .least n t) (refl≼ₛ (ofFrac e)))))
+
 -- ---- from some order on
 pub fine-constant : (q : Signed) → Fine (constant q)
 fine-constant q = record { order = λ e z. 0; bounds = λ e z n h. tt; gap = λ e z n h. record { le = q-le (q .plus ∷ q .minus ∷ e ∷ []) (qv 0 +' (qv 1 +' qn 0)) (qv 0 +' qv 2 +' qv 1) tt } }

@@ -1,18 +1,21 @@
 -- What is promised of an answer follows from the answer: a rise that is given is the distance of document 01, 'What the distances say', from the exact rise.
 use mathlib.Core.Path.{_≡_, refl, sym, ap, subst, _∙_}
-use mathlib.Core.List.{List}
+use mathlib.Core.List.{List, [], _∷_}
 use Prim.Native.Nat.{ℕ, suc, _≤_}
 use native.Mathlib.Omega.{arith}
 use lib.Dec.{T}
+use lib.IntN.{ℤ}
 use Rattle.bounds.specs.declared.Bounds.{Bounds}
 use Rattle.exact.specs.Value.{fromOne}
 use Rattle.exact.specs.Share.{Accepted}
 use Rattle.cable.specs.Checks.{inUse, defaultDiffusivity}
 use Rattle.cable.specs.InRange.{Acceptable, numbersOf}
-use Rattle.cable.specs.Stated.{statedCheck}
+use Rattle.cable.specs.Stated.{statedValues, statedCheck}
 use Rattle.cable.proofs.Acceptance.{accepted-in-range}
+use Rattle.cable.proofs.Stated.{no-values}
 use Rattle.share.specs.Pair.{sharePair}
 use Rattle.share.specs.Promises.{shareWidth, exactShare}
+use Rattle.share.proofs.Promises.{stated-pair}
 use Rattle.distance.proofs.Enclosed.{Enclosed, share-enclosed, exact-share-bounds}
 use Rattle.sheet.specs.Header.{cableOf, startingCurrent, headerOf, checkedHeader}
 use Rattle.sheet.specs.Records.{mostMinutes, origin}
@@ -23,7 +26,7 @@ use Rattle.sheet.specs.declared.HeaderCheck.the-variants as H
 use Rattle.sheet.proofs.HeaderChecks.{accepted-header}
 use Rattle.history.specs.Rise.{riseOf}
 use Rattle.history.specs.Exact.{exactRise, RiseDistance}
-use Rattle.history.specs.Answer.{afterHeader, afterChain, stepsOf, riseAnswer, RiseSaid}
+use Rattle.history.specs.Answer.{afterHeader, afterChain, stepsOf, riseAnswer, statedRise, RiseSaid}
 use Rattle.history.specs.declared.RiseAnswer.{RiseAnswer}
 use Rattle.history.specs.declared.RiseAnswer.the-variants.{Rise, Refused}
 use Rattle.history.proofs.Steps.{chain-minutes}
@@ -49,32 +52,45 @@ module _ (s : List ℕ) {h : Header} (e : checkedHeader s ≡ H.Accepted h) wher
       (chain-minutes (λ (m : ℕ). T (exactShare (h .cable) m .ok n)) (λ m from to. exact-share-bounds (h .cable) m (accepted m from to) n t) (suc (origin s .minutes)) s (origin s))
 
 -- a rise is given only where the header and the chain are accepted
+record Given (s : List ℕ) (b : Bounds) : Type 0 where
+  accepted-as : checkedHeader s ≡ H.Accepted (headerOf s)
+  chained : chainOf s ≡ steps (stepsOf (chainOf s))
+  rise-is : riseOf (sharePair (cableOf s)) (startingCurrent s) (cableOf s .rated) (stepsOf (chainOf s)) ≡ b
+
 module _ (s : List ℕ) {b : Bounds} where
-  given : (a : HeaderCheck) (c : Chain) → checkedHeader s ≡ a → chainOf s ≡ c → afterHeader a (λ (h : Header). afterChain c (riseOf (sharePair (h .cable)) (h .start) (h .cable .rated))) ≡ Rise b
-      → RiseDistance shareWidth (exactShare (cableOf s)) (startingCurrent s) (cableOf s .rated) (stepsOf (chainOf s)) b
+  given : (a : HeaderCheck) (c : Chain) → checkedHeader s ≡ a → chainOf s ≡ c → afterHeader a (λ (h : Header). afterChain c (riseOf (sharePair (h .cable)) (h .start) (h .cable .rated))) ≡ Rise b → Given s b
   given (H.Refused f) c ea ec e = let z : _≡_ {A = ℕ} 0 1 = cc in absurd (omega arith)
   given (H.Accepted h) (refused f) ea ec e = let z : _≡_ {A = ℕ} 0 1 = cc in absurd (omega arith)
   given (H.Accepted h) (steps ss) ea ec e =
+      let rise : Header → Chain → Bounds = λ g c. riseOf (sharePair (g .cable)) (g .start) (g .cable .rated) (stepsOf c) in
+      let is = accepted-header s ea .is in
       let i : riseOf (sharePair (h .cable)) (h .start) (h .cable .rated) ss ≡ b = cc in
-      let j : riseOf (sharePair (h .cable)) (h .start) (h .cable .rated) (stepsOf (chainOf s)) ≡ b = ap (λ c. riseOf (sharePair (h .cable)) (h .start) (h .cable .rated) (stepsOf c)) ec ∙ i in
-      subst (λ (g : Header). RiseDistance shareWidth (exactShare (g .cable)) (g .start) (g .cable .rated) (stepsOf (chainOf s)) b) (accepted-header s ea .is)
-      (subst (λ (q : Bounds). RiseDistance shareWidth (exactShare (h .cable)) (h .start) (h .cable .rated) (stepsOf (chainOf s)) q) j (sheet-distance s ea))
+      record {
+        accepted-as = ea ∙ ap H.Accepted is;
+        chained = ec ∙ sym (ap (λ c. steps (stepsOf c)) ec);
+        rise-is = ap (λ g. rise g (chainOf s)) (sym is) ∙ ap (rise h) ec ∙ i;
+      }
 
--- so the steps are those of an accepted chain, and every order from 1 gives bounds of the exact rise that an answer is held against
-module _ (s : List ℕ) {b : Bounds} where
-  parts : (a : HeaderCheck) (c : Chain) → checkedHeader s ≡ a → chainOf s ≡ c → afterHeader a (λ (h : Header). afterChain c (riseOf (sharePair (h .cable)) (h .start) (h .cable .rated))) ≡ Rise b
-      → (checkedHeader s ≡ H.Accepted (headerOf s)) × (chainOf s ≡ steps (stepsOf (chainOf s)))
-  parts (H.Refused f) c ea ec e = let z : _≡_ {A = ℕ} 0 1 = cc in absurd (omega arith)
-  parts (H.Accepted h) (refused f) ea ec e = let z : _≡_ {A = ℕ} 0 1 = cc in absurd (omega arith)
-  parts (H.Accepted h) (steps ss) ea ec e = (ea ∙ ap H.Accepted (accepted-header s ea .is), ec ∙ sym (ap (λ c. steps (stepsOf c)) ec))
-
-  pub rise-of-accepted : riseAnswer s ≡ Rise b → (checkedHeader s ≡ H.Accepted (headerOf s)) × (chainOf s ≡ steps (stepsOf (chainOf s)))
+  rise-given : riseAnswer s ≡ Rise b → Given s b
   unfolding riseAnswer
-  rise-of-accepted e = parts (checkedHeader s) (chainOf s) refl refl e
+  rise-given e = given (checkedHeader s) (chainOf s) refl refl e
 
+  given-distance : Given s b → RiseDistance shareWidth (exactShare (cableOf s)) (startingCurrent s) (cableOf s .rated) (stepsOf (chainOf s)) b
+  given-distance g =
+      subst (λ (q : Bounds). RiseDistance shareWidth (exactShare (cableOf s)) (startingCurrent s) (cableOf s .rated) (stepsOf (chainOf s)) q) (g .rise-is) (sheet-distance s (g .accepted-as))
+
+  -- the steps of the exact rise that an answer is held against are those of an accepted chain
+  pub rise-steps : riseAnswer s ≡ Rise b → chainOf s ≡ steps (stepsOf (chainOf s))
+  rise-steps e = rise-given e .chained
+
+  -- .. and every order from 1 gives bounds of it
   pub exact-rise-bounds : riseAnswer s ≡ Rise b → (n : ℕ) → T (fromOne n) → T (exactRise (exactShare (cableOf s)) (startingCurrent s) (cableOf s .rated) (stepsOf (chainOf s)) .ok n)
-  exact-rise-bounds e n t = sheet-bounds s (rise-of-accepted e .0) n t
+  exact-rise-bounds e n t = sheet-bounds s (rise-given e .accepted-as) n t
+
+-- two values are stated of a rise alone
+reported : (r : RiseAnswer) {low high : ℤ} → statedRise r ≡ statedValues (low ∷ high ∷ []) → r ≡ Rise (record { low = low; high = high })
+reported (Rise b) e = ap Rise (stated-pair e)
+reported (Refused f) e = absurd (no-values f e)
 
 pub said : {s : List ℕ} {r : RiseAnswer} → r ≡ riseAnswer s → RiseSaid s r
-unfolding riseAnswer
-said {s} {r} e = record { answer = e; distance = λ b q. given s (checkedHeader s) (chainOf s) refl refl (sym e ∙ q) }
+said {s} {r} e = record { answer = e; distance = λ low high q. given-distance s (rise-given s (sym e ∙ reported r q)) }

@@ -3,6 +3,7 @@
 use mathlib.Core.Path.{_≡_}
 use mathlib.Core.List.{List, [], _∷_}
 use Prim.Native.Nat.{ℕ}
+use lib.IntN.{ℤ}
 use Rattle.bounds.specs.declared.Bounds.{Bounds}
 use Rattle.cable.specs.Stated.{Stated, statedValues, statedRefusal}
 use Rattle.cable.specs.declared.Cable.{Cable}
@@ -46,7 +47,8 @@ stepsOf (refused f) = []
 -- the answer, and how far a rise may be from the exact one of the sheet's cable, starting current and steps: 'What the distances say'
 pub record RiseSaid (s : List ℕ) (r : RiseAnswer) : Type 0 where
   pub answer : r ≡ riseAnswer s
-  pub distance : (b : Bounds) → r ≡ Rise b → RiseDistance shareWidth (exactShare (cableOf s)) (startingCurrent s) (cableOf s .rated) (stepsOf (chainOf s)) b
+  pub distance : (low high : ℤ) → statedRise r ≡ statedValues (low ∷ high ∷ [])
+      → RiseDistance shareWidth (exactShare (cableOf s)) (startingCurrent s) (cableOf s .rated) (stepsOf (chainOf s)) (record { low = low; high = high })
 
 -- where a walk begins: the cable of an accepted header, and the header's own record
 pub record Begins (s : List ℕ) (cable : Cable) (first : LoadRecord) : Type 0 where

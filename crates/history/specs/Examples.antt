@@ -3,12 +3,17 @@
 use mathlib.Core.Path.{_≡_, refl}
 use mathlib.Core.List.{List, [], _∷_}
 use Prim.Native.Nat.{ℕ, _+_}
+use lib.Dec.{le→leb}
 use lib.IntN.{ℤ, pos, negsuc}
+use Rattle.numbers.specs.Fraction.{_∸_}
+use Rattle.numbers.specs.Signed.{maxS, minS}
 use Rattle.numbers.specs.Integer.{lesser, greater}
 use Rattle.numbers.specs.Rounding.{floorZ, ceilZ}
 use Rattle.bounds.specs.Operations.{addB, mulB, dividedB}
 use Rattle.bounds.specs.declared.Bounds.{Bounds}
+use Rattle.exact.specs.Value.{integer}
 use Rattle.cable.specs.Checks.{outsideField, checked}
+use Rattle.cable.specs.Stated.{no-place, a-record}
 use Rattle.cable.specs.declared.Place.the-variants as P
 use Rattle.sheet.specs.BigEndian.{bigEndian}
 use Rattle.sheet.specs.Layout.{wrongLength}
@@ -16,7 +21,8 @@ use Rattle.sheet.specs.Header.{cableOf, checkedHeader}
 use Rattle.sheet.specs.Records.{recordAt, checkedRecord}
 use Rattle.sheet.specs.Chain.{Step, chainFrom}
 use Rattle.history.specs.Rise.{sumOf, riseOf}
-use Rattle.history.specs.Answer.{riseAnswer}
+use Rattle.history.specs.Exact.{exactSum, exactRise, changes, RiseDistance}
+use Rattle.history.specs.Answer.{riseAnswer, statedRise}
 use Rattle.history.specs.declared.RiseAnswer.the-variants.{Rise, Refused}
 
 abbrev pairs : ℕ → Bounds
@@ -59,6 +65,48 @@ three-steps = refl
 negative-low : riseOf pairs 0 7 (step 10 1 ∷ step 9 0 ∷ []) ≡ rise (negsuc 0) (pos 1)
 unfolding riseOf sumOf addB mulB lesser greater dividedB floorZ ceilZ
 negative-low = refl
+
+-- ---- the distance
+
+-- 400, 300 and 800
+three-changes : changes 0 (step 60 20 ∷ step 30 10 ∷ step 10 30 ∷ []) ≡ 1500
+unfolding changes
+three-changes = refl
+
+no-change : changes 300 [] ≡ 0
+unfolding changes
+no-change = refl
+
+-- one step of 20 A, where the exact share after m minutes is m millionths: the exact rise is 6,000, and 4·(high − low) at most 2·4 + 50·400 = 20,008
+abbrev Near : ℤ → ℤ → Type 0
+Near low high = RiseDistance 50 (λ (m : ℕ). integer (pos m)) 0 2 (step 60 20 ∷ []) (rise low high)
+
+-- 4·5,003 is 20,012
+too-wide : Near (pos 4000) (pos 9003) → ⊥
+unfolding changes
+too-wide d = d .width .le
+
+-- one step of 1 A at a rated current of 1 A: 53 is one above 2 + 50
+one-too-wide : RiseDistance 50 (λ (m : ℕ). integer (pos m)) 0 1 (step 60 1 ∷ []) (rise (pos 30) (pos 83)) → ⊥
+unfolding changes
+one-too-wide d = d .width .le
+
+low-above : Near (pos 6001) (pos 6001) → ⊥
+unfolding exactRise exactSum maxS minS _∸_
+low-above d = le→leb _ _ (d .around .low-at-most .most 1 tt .le .cross)
+
+high-below : Near (pos 5999) (pos 5999) → ⊥
+unfolding exactRise exactSum maxS minS _∸_
+high-below d = le→leb _ _ (d .around .high-at-least .least 1 tt .le .cross)
+
+-- ---- the paper's numbers
+
+-- low before high
+stated-low-first : (low high : ℤ) → statedRise (Rise (rise low high)) ≡ record { number = 0; kind = no-place; place = 0; values = low ∷ high ∷ [] }
+stated-low-first low high = refl
+
+stated-5 : statedRise (Refused (record { number = 5; place = P.Record 0 })) ≡ record { number = 5; kind = a-record; place = 0; values = [] }
+stated-5 = refl
 
 -- ---- whole sheets
 

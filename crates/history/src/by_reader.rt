@@ -23,6 +23,7 @@ pub fn rise_by_reader(sheet: &[u8]) -> RiseAnswer
         return RiseAnswer::Refused(sheet::header_refusal(checked));
     };
     let read = reader::record_read(sheet, 0);
+    // Never taken: record 0 of an accepted sheet is the one made of its header.
     let RecordRead::Held(first) = read else {
         return RiseAnswer::Refused(Refusal {
             number: 1,

@@ -1,7 +1,7 @@
 -- The certifying rule at the exact share holds exactly where the rise from the preload by the step to i is at most r percent of the rated rise, which is
 -- 10,000·r millionths of it.
 use mathlib.Core.Path.{_≡_, refl, sym, ap, subst}
-use Prim.Native.Nat.{ℕ, _+_, _*_, _<_}
+use Prim.Native.Nat.{ℕ, _*_, _<_}
 use native.Mathlib.Nat.{mul-le-mul}
 use native.Mathlib.Omega.{arith}
 use lib.IntN.{pos, negℤ, _+ℤ_, _-ℤ_, _*ℤ_}

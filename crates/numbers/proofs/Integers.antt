@@ -7,7 +7,7 @@ use Prim.Native.Nat.{ℕ, zero, suc, _+_, _*_, _≤_, _<_}
 use native.Mathlib.Omega.{arith}
 use native.Mathlib.Nat.{lt-of-mul-lt-mul-right, mul-le-mul-left, mul-add, add-mul, mul-assoc}
 use lib.Dec.{T, ltb, leb→le, le→leb, ltb→lt, lt→ltb}
-use lib.IntN.{ℤ, pos, negsuc, negℤ, natAbs, subℕ, sucℤ, _+ℤ_, _*ℤ_, *ℤ-comm}
+use lib.IntN.{ℤ, pos, negsuc, negℤ, natAbs, subℕ, sucℤ, _+ℤ_, _-ℤ_, _*ℤ_, *ℤ-comm}
 use lib.Signed.{_≤ℤ_, _<ℤ_, leZ, ltZ, ≤ℤ-refl}
 use borrow.Author.Tests.{ltb-true, ltb-false}
 use Rattle.numbers.specs.Integer.{up, dn, lesser, greater}
@@ -180,6 +180,24 @@ pub *ℤ-cancel : (n : ℕ) {a b : ℤ} → (a *ℤ pos n) <ℤ (b *ℤ pos n) �
 *ℤ-cancel n {a} {b} h =
     lin-lt a b
     (lt-of-mul-lt-mul-right n (simp add-mul (omega (arith, lt-lin h, mul-lin a (pos n), mul-lin b (pos n)))))
+
+-- a natural number times a difference that is not below 0, added to what is not
+pub add-term : (s a b : ℤ) (k : ℕ) → pos 0 ≤ℤ s → a ≤ℤ b → pos 0 ≤ℤ (s +ℤ (pos k *ℤ (b -ℤ a)))
+add-term s a b k p q =
+    lin-le (pos 0) (s +ℤ (pos k *ℤ (b -ℤ a)))
+    (omega (
+      arith,
+      le-lin p,
+      add-lin s (pos k *ℤ (b -ℤ a)),
+      mul-lin (pos k) (b -ℤ a),
+      ap (λ (n : ℕ). k * n) (rw (neg-up a, neg-dn a) at (add-lin b (negℤ a))),
+      mul-le-mul-left k (le-lin q),
+    ))
+
+-- a factor of a product with a natural number above 0 that is not below 0
+pub factor-not-negative : (z : ℤ) (d : ℕ) → 0 < d → pos 0 ≤ℤ (z *ℤ pos d) → pos 0 ≤ℤ z
+factor-not-negative (pos n) d h k = lin-le (pos 0) (pos n) (omega arith)
+factor-not-negative (negsuc n) d h k = absurd (omega (arith, le-lin k, mul-lin (negsuc n) (pos d)))
 
 -- ---- the lesser and the greater of two
 

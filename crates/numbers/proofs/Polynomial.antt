@@ -1,12 +1,11 @@
--- A prover for polynomials over the natural numbers by computation: equality, order coefficient by coefficient, order from hypotheses with multipliers.
-use Prim.Native.Nat.{ℕ, zero, suc, _+_, _*_, _^_, _≤_, _<_, compare, Ordering, Ordering·lt, Ordering·eq, Ordering·gt, zero-le}
+-- A prover for polynomials over the natural numbers by computation: order, coefficient by coefficient.
+use Prim.Native.Nat.{ℕ, zero, suc, _+_, _*_, _^_, _≤_, compare, Ordering, Ordering·lt, Ordering·eq, Ordering·gt, zero-le}
 use mathlib.Core.Path.{_≡_, refl, sym, _∙_, ap, ap₂, subst₂}
 use mathlib.Core.List.{List, [], _∷_}
-use native.Mathlib.Nat.{le-of-mul-le-mul-left, le-antisymm, le-of-eq, le-trans, add-le-add, mul-le-mul-left, mul-le-mul-right, add-assoc, add-left-comm, mul-one, one-mul, mul-zero, zero-mul, add-zero, zero-add, mul-add, add-mul, mul-mul-mul-comm, pow-zero, pow-succ'}
+use native.Mathlib.Nat.{le-trans, add-le-add, mul-le-mul-right, add-assoc, add-left-comm, mul-one, one-mul, mul-zero, zero-mul, add-zero, zero-add, mul-add, add-mul, mul-mul-mul-comm, pow-zero, pow-succ'}
 use lib.Pow.{pow-add}
 use mathlib.Core.Bool.{Bool, true, false}
 use lib.Dec.{T, isEq, leb, leb→le, eqb→eq}
-use native.Mathlib.Numerals.{one-add}
 use native.Mathlib.Omega.{arith}
 
 -- ---- expressions
@@ -15,12 +14,9 @@ pub data Ex : Type 0 where
   num : ℕ → Ex
   _:+_ : Ex → Ex → Ex
   _:*_ : Ex → Ex → Ex
-  _:^_ : Ex → ℕ → Ex
-  nxt : Ex → Ex
 
 infixl 6 _:+_
 infixl 7 _:*_
-infixr 8 _:^_
 abbrev pub at : List ℕ → ℕ → ℕ
 at [] i = 1
 at (x ∷ ρ) zero = x
@@ -31,8 +27,6 @@ eval ρ (var i) = at ρ i
 eval ρ (num k) = k
 eval ρ (a :+ b) = eval ρ a + eval ρ b
 eval ρ (a :* b) = eval ρ a * eval ρ b
-eval ρ (a :^ n) = eval ρ a ^ n
-eval ρ (nxt a) = suc (eval ρ a)
 
 -- ---- a monomial: the list of its exponents
 abbrev pub hd : List ℕ → ℕ
@@ -93,17 +87,11 @@ abbrev pub times : Poly → Poly → Poly
 times none t = none
 times (term c m s) t = scaled c m t (times s t)
 
-abbrev pub raised : Poly → ℕ → Poly
-raised s zero = term 1 [] none
-raised s (suc n) = times s (raised s n)
-
 abbrev pub norm : Ex → Poly
 norm (var i) = term 1 (lead i) none
 norm (num k) = term k [] none
 norm (a :+ b) = plus (norm a) (norm b)
 norm (a :* b) = times (norm a) (norm b)
-norm (a :^ n) = raised (norm a) n
-norm (nxt a) = put 1 [] (norm a)
 
 -- ---- it is sound
 pow-one : (x : ℕ) → x ^ 1 ≡ x
@@ -159,17 +147,11 @@ total-times : (s t : Poly) (ρ : List ℕ) → total ρ (times s t) ≡ total ρ
 total-times none t ρ = sym (zero-mul (total ρ t))
 total-times (term c m s) t ρ = total-scaled c m t (times s t) ρ ∙ ap (λ x. c * mon ρ m * total ρ t + x) (total-times s t ρ) ∙ sym (add-mul (c * mon ρ m) (total ρ s) (total ρ t))
 
-total-raised : (s : Poly) (n : ℕ) (ρ : List ℕ) → total ρ (raised s n) ≡ total ρ s ^ n
-total-raised s zero ρ = sym (pow-zero (total ρ s))
-total-raised s (suc n) ρ = total-times s (raised s n) ρ ∙ ap (λ x. total ρ s * x) (total-raised s n ρ) ∙ sym (pow-succ' (total ρ s) n)
-
 pub norm-sound : (ρ : List ℕ) (e : Ex) → total ρ (norm e) ≡ eval ρ e
 norm-sound ρ (var i) = add-zero (1 * mon ρ (lead i)) ∙ one-mul (mon ρ (lead i)) ∙ mon-lead ρ i
 norm-sound ρ (num k) = add-zero (k * 1) ∙ mul-one k
 norm-sound ρ (a :+ b) = total-plus (norm a) (norm b) ρ ∙ ap₂ _+_ (norm-sound ρ a) (norm-sound ρ b)
 norm-sound ρ (a :* b) = total-times (norm a) (norm b) ρ ∙ ap₂ _*_ (norm-sound ρ a) (norm-sound ρ b)
-norm-sound ρ (a :^ n) = total-raised (norm a) n ρ ∙ ap (λ x. x ^ n) (norm-sound ρ a)
-norm-sound ρ (nxt a) = total-put 1 [] (norm a) ρ ∙ ap (λ x. 1 * 1 + x) (norm-sound ρ a) ∙ one-add (eval ρ a)
 
 -- ---- one polynomial is below another, coefficient by coefficient: on closed expressions this computes to `true`
 abbrev pub seek : ℕ → List ℕ → (Poly → Bool) → Poly → Bool
@@ -201,59 +183,6 @@ below-le : (ρ : List ℕ) (s t : Poly) → T (below s t) → total ρ s ≤ tot
 below-le ρ none t h = zero-le
 below-le ρ (term c m s) t h = seek-le c m (below s) ρ (total ρ s) (below-le ρ s) t h
 
--- ---- what a user calls. Each test computes to `Unit` on closed expressions: its proof is `tt`
+-- ---- what a user calls. The test computes to `Unit` on closed expressions: its proof is `tt`
 pub poly-le : (ρ : List ℕ) (p q : Ex) → T (below (norm p) (norm q)) → eval ρ p ≤ eval ρ q
 poly-le ρ p q h = subst₂ (λ (x y : ℕ). x ≤ y) (norm-sound ρ p) (norm-sound ρ q) (below-le ρ (norm p) (norm q) h)
-
-pub poly-eq : (ρ : List ℕ) (p q : Ex) → T (below (norm p) (norm q)) → T (below (norm q) (norm p)) → eval ρ p ≡ eval ρ q
-poly-eq ρ p q h k = le-antisymm (poly-le ρ p q h) (poly-le ρ q p k)
-
--- ---- from hypotheses, each with a multiplier: `le m a b` is eval a ≤ eval b, taken m times; `eq m n a b` is eval a ≡ eval b, taken m times so and n times the other way
-pub data Hyp : Type 0 where
-  le : Ex → Ex → Ex → Hyp
-  eq : Ex → Ex → Ex → Ex → Hyp
-
-abbrev pub Means : List ℕ → Hyp → Type 0
-Means ρ (le m a b) = eval ρ a ≤ eval ρ b
-Means ρ (eq m n a b) = eval ρ a ≡ eval ρ b
-
-abbrev pub low : Hyp → Ex
-low (le m a b) = m :* a
-low (eq m n a b) = m :* a :+ n :* b
-
-abbrev pub high : Hyp → Ex
-high (le m a b) = m :* b
-high (eq m n a b) = m :* b :+ n :* a
-
-abbrev pub lows : List Hyp → Ex
-lows [] = num 0
-lows (h ∷ hs) = low h :+ lows hs
-
-abbrev pub highs : List Hyp → Ex
-highs [] = num 0
-highs (h ∷ hs) = high h :+ highs hs
-
-abbrev pub Given : List ℕ → List Hyp → Type 0 → Type 0
-Given ρ [] G = G
-Given ρ (h ∷ hs) G = Means ρ h → Given ρ hs G
-
-weigh : (ρ : List ℕ) (h : Hyp) → Means ρ h → eval ρ (low h) ≤ eval ρ (high h)
-weigh ρ (le m a b) p = mul-le-mul-left (eval ρ m) p
-weigh ρ (eq m n a b) p = add-le-add (mul-le-mul-left (eval ρ m) (le-of-eq p)) (mul-le-mul-left (eval ρ n) (le-of-eq (sym p)))
-
-given : (ρ : List ℕ) (hs : List Hyp) (G : Type 0) → (eval ρ (lows hs) ≤ eval ρ (highs hs) → G) → Given ρ hs G
-given ρ [] G k = k zero-le
-given ρ (h ∷ hs) G k = λ p. given ρ hs G (λ r. k (add-le-add (weigh ρ h p) r))
-
-pub poly-from : (ρ : List ℕ) (hs : List Hyp) (p q : Ex) → T (below (norm (p :+ highs hs)) (norm (q :+ lows hs))) → Given ρ hs (eval ρ p ≤ eval ρ q)
-poly-from ρ hs p q t = given ρ hs (eval ρ p ≤ eval ρ q) (λ r. done (poly-le ρ (p :+ highs hs) (q :+ lows hs) t) r)
-  where
-    done : eval ρ p + eval ρ (highs hs) ≤ eval ρ q + eval ρ (lows hs) → eval ρ (lows hs) ≤ eval ρ (highs hs) → eval ρ p ≤ eval ρ q
-    done a r = omega arith
-
--- the same, where the certificate is for c times the goal, c positive
-pub poly-cancel : (ρ : List ℕ) (hs : List Hyp) (c p q : Ex) → T (below (norm (c :* p :+ highs hs)) (norm (c :* q :+ lows hs))) → 0 < eval ρ c → Given ρ hs (eval ρ p ≤ eval ρ q)
-poly-cancel ρ hs c p q t pos = given ρ hs (eval ρ p ≤ eval ρ q) (λ r. le-of-mul-le-mul-left (done (poly-le ρ (c :* p :+ highs hs) (c :* q :+ lows hs) t) r) pos)
-  where
-    done : eval ρ c * eval ρ p + eval ρ (highs hs) ≤ eval ρ c * eval ρ q + eval ρ (lows hs) → eval ρ (lows hs) ≤ eval ρ (highs hs) → eval ρ c * eval ρ p ≤ eval ρ c * eval ρ q
-    done a r = omega arith

@@ -10,7 +10,7 @@ use lib.Signed.{_≤ℤ_, _<ℤ_, ltZ, mag, ≤ℤ-refl}
 use borrow.Author.Tests.{ltb-true}
 use Rattle.numbers.specs.Integer.{up}
 use Rattle.numbers.specs.Rounding.{floorZ, ceilZ, ceilN}
-use Rattle.numbers.proofs.Integers.{le-lin, lin-le, lt-lin, lin-lt, suc-lin, mul-lin, size-neg, negℤ-*ℤ, ≤ℤ-trans, ≤ℤ-antisym, <ℤ-sucℤ, negℤ-mono, negℤ-strict, *ℤ-cancel}
+use Rattle.numbers.proofs.Integers.{le-lin, lin-le, lt-lin, lin-lt, suc-lin, mul-lin, negℤ-*ℤ, ≤ℤ-trans, ≤ℤ-antisym, <ℤ-sucℤ, negℤ-mono, negℤ-strict, *ℤ-cancel}
 
 -- ---- natural numbers
 
@@ -119,10 +119,6 @@ pub floor-size : (z : ℤ) (d : ℕ) → natAbs (floorZ z d) ≤ natAbs z
 unfolding floorZ
 floor-size (pos a) d = div-le-self a d
 floor-size (negsuc a) d = omega (arith, div-le-self a d)
-
-pub ceil-size : (z : ℤ) (d : ℕ) → natAbs (ceilZ z d) ≤ natAbs z
-unfolding ceilZ
-ceil-size z d = omega (arith, size-neg (floorZ (negℤ z) d), floor-size (negℤ z) d, size-neg z)
 
 -- a number not below 0 is rounded up as a natural number is
 module _ (n : ℕ) {d : ℕ} (h : 0 < d) where

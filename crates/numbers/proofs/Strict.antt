@@ -7,7 +7,7 @@ use native.Mathlib.Nat.{mul-pos, mul-le-mul-right, zero-lt-suc}
 use native.Mathlib.Omega.{arith}
 use Rattle.numbers.specs.Fraction.{Frac, _≼_, _≺_, _≼?_, _per_, _⊕_, _⊗_, _÷_, 0F, 1F}
 use Rattle.numbers.proofs.Fractions.{trans≼, cancel⊕, test-is, ÷-times, ÷-above, above}
-use Rattle.numbers.proofs.FractionProver.{qv, qn, qf, _+'_, _*'_, q-le, q-from, le, eq}
+use Rattle.numbers.proofs.FractionProver.{qv, qn, qf, _+'_, _*'_, q-le, q-from, eq}
 
 -- a is below b exactly where b is not at most a
 pub below-not : {a b : Frac} → a ≺ b → b ≼ a → ⊥

@@ -1,4 +1,4 @@
--- Hourly amperes from numbers of 32 bits: "A decimal beyond its parameter's type is handed on as the type's largest value."
+-- Hourly amperes, of 16 bits, from numbers of 32: a number beyond 16 bits is held at the largest of 16 bits, which is above every accepted hour.
 use mathlib.Core.Path.{_≡_}
 use mathlib.Core.List.{List}
 use Prim.Native.Nat.{ℕ, _+_, _<_, min}

@@ -11,14 +11,8 @@ pub enum Command {
     Unknown,
 }
 
-// The command that the first word names. A word longer than every name comes as none, which is no name either.
-pub fn given() -> Command {
-    let mut word = [0u8; 8];
-    let length = os::arg(1, &mut word);
-    command_of(&word[..length])
-}
-
-fn command_of(word: &[u8]) -> Command
+// The command that a word names, `Unknown` where it names none.
+pub fn command_of(word: &[u8]) -> Command
     ensures { λ r. ⌜ r ≡ commandOf (now (word .entry)) ⌝ }
 {
     if text::same(word, b"share") {

@@ -6,7 +6,6 @@ mod words;
 
 use command::Command;
 use report::Outcome;
-use text::Number;
 use words::Fault;
 
 // How many numbers each calculation takes: a cable's eight fields, and what is asked of it.
@@ -22,7 +21,7 @@ fn main() {
         say::help();
         return;
     }
-    match command::given() {
+    match command_given() {
         Command::Share => share_command(words),
         Command::Factor => factor_command(words),
         Command::Current => current_command(words),
@@ -32,6 +31,13 @@ fn main() {
             say::line(b"usage: no such command; rating share, factor, current, rise or explain\n")
         }
     }
+}
+
+// The command that the first word names. A word longer than every name comes as none, which is no name either.
+fn command_given() -> Command {
+    let mut word = [0u8; 8];
+    let length = os::arg(1, &mut word);
+    command::command_of(&word[..length])
 }
 
 fn share_command(words: usize) {
@@ -93,14 +99,14 @@ fn rise_command(words: usize) {
 }
 
 fn explain_command(words: usize) {
-    if words != 3 {
-        say::line(b"usage: one number wanted: rating explain NUMBER\n");
-        return;
+    let given = words::read(words, 1);
+    let fault = given.fault;
+    match fault {
+        Fault::None => {
+            let values = given.values;
+            say::condition(values[0])
+        }
+        Fault::Count => say::line(b"usage: one number wanted: rating explain NUMBER\n"),
+        Fault::NotWhole(_) => say::line(b"rating: a refusal's number is a whole number\n"),
     }
-    let word = words::word_at(2);
-    let Number::Whole(number) = word else {
-        say::line(b"rating: a refusal's number is a whole number\n");
-        return;
-    };
-    say::condition(number);
 }

@@ -1,9 +1,6 @@
 // The whole numbers among the program's words.
-ghost use mathlib.Core.Path.{_≡_};
-ghost use mathlib.Core.Bool.{not};
-ghost use Prim.Native.Nat.{_+_, _≤_};
-ghost use lib.Dec.{eqb};
-ghost use Rattle.rating.specs.Words.{miscounted};
+ghost use Prim.Native.Nat.{_≤_};
+ghost use Rattle.rating.specs.Words.{ReadSaid};
 use text::Number;
 
 // The program's own name and the command stand before the first number.
@@ -27,7 +24,7 @@ pub struct Numbers {
 // The wanted numbers, from all the words after the command.
 pub fn read(words: usize, wanted: usize) -> Numbers
     requires { ⌜ wanted ≤ 32 ⌝ }
-    ensures { λ r. ⌜ miscounted (r .fault) ≡ not (eqb words (2 + wanted)) ⌝ }
+    ensures { λ r. ⌜ ReadSaid words wanted r ⌝ }
 {
     let mut values = [0u32; 32];
     if words != FIRST + wanted {
@@ -53,7 +50,7 @@ pub fn read(words: usize, wanted: usize) -> Numbers
 }
 
 // Word k as a whole number. With pages of 4 KiB the system hands over no word that does not fit here.
-pub fn word_at(k: usize) -> Number {
+fn word_at(k: usize) -> Number {
     let mut word = [0u8; 131072];
     let length = os::arg(k, &mut word);
     text::number_of(&word[..length], MOST)

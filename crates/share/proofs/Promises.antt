@@ -1,10 +1,11 @@
 -- The promises of the share's pair: it encloses the exact share, is narrow, and is a function of its cable and minutes alone.
-use mathlib.Core.Path.{_≡_, refl, sym, _∙_}
+use mathlib.Core.Path.{_≡_, refl, sym, ap, _∙_}
 use mathlib.Core.Bool.{Bool, true, false, cond}
+use mathlib.Core.List.{[], _∷_}
 use Prim.Native.Nat.{ℕ, _+_, _≤_}
 use native.Mathlib.Nat.{le-refl}
 use native.Mathlib.Omega.{arith}
-use lib.IntN.{pos, _+ℤ_}
+use lib.IntN.{ℤ, pos, _+ℤ_}
 use lib.Signed.{_≤ℤ_}
 use Rattle.numbers.proofs.Integers.{lin-le, add-lin}
 use Rattle.numbers.specs.Fraction.{whole}
@@ -14,14 +15,15 @@ use Rattle.exact.specs.Value.{_⊴_, inMillionths}
 use Rattle.exact.proofs.Values.{constant⊴, mul⊴}
 use Rattle.exact.specs.Share.{CableNumbers, Accepted, share, seconds}
 use Rattle.exact.proofs.Share.{share-risesP}
-use Rattle.exact.proofs.SignedShare.{share-plain, share-rises}
+use Rattle.exact.proofs.SignedShare.{share-plain, share-rises, millionthOrder, millionth-bounds, millionth-gap}
 use Rattle.exact.proofs.Pairs.{millionths-most, millionths-least}
 use Rattle.bounds.specs.Pair.{Pair, asBounds}
 use Rattle.bounds.specs.declared.Bounds.{Bounds}
 use Rattle.cable.specs.Checks.{outside, _to_, checked, inUse, defaultDiffusivity}
-use Rattle.cable.specs.Stated.{statedCheck}
+use Rattle.cable.specs.Stated.{statedValues, statedCheck}
 use Rattle.cable.specs.InRange.{numbersOf}
 use Rattle.cable.proofs.Acceptance.{passed-within, accepted-in-range}
+use Rattle.cable.proofs.Stated.{same-values, no-values}
 use Rattle.cable.specs.declared.Cable.{Cable}
 use Rattle.cable.specs.declared.CableCheck.{CableCheck}
 use Rattle.cable.specs.declared.CableCheck.the-variants as C
@@ -30,9 +32,9 @@ use Rattle.model.specs.Width.{innerWidth}
 use Rattle.model.specs.ShareEnclosed.{ShareEnclosed}
 use Rattle.model.proofs.Cable.{share-at-most-million}
 use Rattle.model.proofs.Enclosure.Share.{share-held, share-enclosed}
-use Rattle.share.specs.Pair.{sharePair, share-pair-is, pair-in-use-is}
-use Rattle.share.specs.Promises.{shareWidth, exactShare, Millionths, Promised}
-use Rattle.share.specs.Answer.{mostMinutes, refused9, shareAnswer, afterChecks, ShareSaid}
+use Rattle.share.specs.Pair.{secondsOf, sharePair, share-pair-is, pair-in-use-is}
+use Rattle.share.specs.Promises.{shareWidth, exactShare, MillionthGap, Millionths, Promised}
+use Rattle.share.specs.Answer.{mostMinutes, refused9, shareAnswer, afterChecks, statedShare, ShareSaid}
 use Rattle.share.specs.declared.ShareAnswer.{ShareAnswer}
 use Rattle.share.specs.declared.ShareAnswer.the-variants as S
 
@@ -43,7 +45,7 @@ natural-range p l h = record { low-from = lin-le _ _ (omega arith); low-to = lin
 pub share-pair-range : (cable : Cable) (minutes : ℕ) → Millionths (sharePair cable minutes)
 share-pair-range cable minutes =
     let c = inUse defaultDiffusivity cable in
-    let m = share-at-most-million (c .diameter) (c .depth) (c .diffusivity) (c .«surface_ratio») (c .«fast_weight») (c .«fast_rate») (c .«slow_rate») (seconds minutes) in
+    let m = share-at-most-million (c .diameter) (c .depth) (c .diffusivity) (c .«surface_ratio») (c .«fast_weight») (c .«fast_rate») (c .«slow_rate») (secondsOf minutes) in
     rw (share-pair-is cable minutes, pair-in-use-is c minutes) (natural-range _ (m .low) (m .high))
 
 natural-narrow : (low high w v : ℕ) → w ≤ v → high ≤ low + w → pos high ≤ℤ (pos low +ℤ pos v)
@@ -54,11 +56,12 @@ module _ (c : CableNumbers) (m : ℕ) (a : Accepted c m) where
   abbrev pairHere : Pair
   pairHere = attainedShare (c .d) (c .l) (c .s) (c .k) (c .w) (c .fast) (c .slow) (seconds m)
 
-  enclosed : ShareEnclosed c m pairHere → Promised shareWidth (inMillionths (share c m)) (asBounds pairHere)
-  enclosed e = record {
+  -- at every width from the inner one on
+  enclosed : (width : ℕ) → innerWidth ≤ width → ShareEnclosed c m pairHere → Promised width (inMillionths (share c m)) (asBounds pairHere)
+  enclosed width h e = record {
     range = natural-range pairHere (omega (arith, e .ordered, e .at-most-one)) (e .at-most-one);
     ordered = lin-le _ _ (omega (arith, e .ordered));
-    narrow = natural-narrow (pairHere .low) (pairHere .high) innerWidth shareWidth (omega arith) (e .narrow);
+    narrow = natural-narrow (pairHere .low) (pairHere .high) innerWidth width h (e .narrow);
     low-at-most = millionths-most (share-plain c m a) (share-risesP c m m a a (le-refl m)) (share-held c m a);
     high-at-least = millionths-least (share-plain c m a) (share-risesP c m m a a (le-refl m)) (share-held c m a);
   }
@@ -66,7 +69,7 @@ module _ (c : CableNumbers) (m : ℕ) (a : Accepted c m) where
 pub share-promised : (cable : Cable) (minutes : ℕ) → Accepted (numbersOf (inUse defaultDiffusivity cable)) minutes → Promised shareWidth (exactShare cable minutes) (sharePair cable minutes)
 share-promised cable minutes a =
     let c = numbersOf (inUse defaultDiffusivity cable) in
-    rw (share-pair-is cable minutes, pair-in-use-is (inUse defaultDiffusivity cable) minutes) (enclosed c minutes a (share-enclosed c minutes a))
+    rw (share-pair-is cable minutes, pair-in-use-is (inUse defaultDiffusivity cable) minutes) (enclosed c minutes a shareWidth (omega arith) (share-enclosed c minutes a))
 
 -- ---- a pair that is answered is that of the cable and the minutes
 answered : (a : CableCheck) (o : Bool) (q : Bounds) {p : Bounds} → afterChecks a (cond o (S.Refused refused9) (S.Pair q)) ≡ S.Pair p → p ≡ q
@@ -91,12 +94,34 @@ answered-accepted cable minutes e =
     let within = passed-within 1 mostMinutes minutes (both .1) in
     record { cable = accepted-in-range cable (both .0) .numbers; minutes-from = within .0; minutes-to = within .1 }
 
+-- a pair's two values are its ends
+pub stated-pair : {b : Bounds} {low high : ℤ} → statedValues (b .low ∷ b .high ∷ []) ≡ statedValues (low ∷ high ∷ []) → b ≡ record { low = low; high = high }
+stated-pair {b} {low} {high} e =
+    let ends : b .low ∷ b .high ∷ [] ≡ low ∷ high ∷ [] = same-values e in
+    let l : b .low ≡ low = cc in
+    let h : b .high ≡ high = cc in
+    rw (← l, ← h)
+
+-- two values are stated of a pair alone
+reported : (r : ShareAnswer) {low high : ℤ} → statedShare r ≡ statedValues (low ∷ high ∷ []) → r ≡ S.Pair (record { low = low; high = high })
+reported (S.Pair b) e = ap S.Pair (stated-pair e)
+reported (S.Refused f) e = absurd (no-values f e)
+
 -- what the contract of `share` says follows from its answer
 pub said : {cable : Cable} {minutes : ℕ} {r : ShareAnswer} → r ≡ shareAnswer cable minutes → ShareSaid cable minutes r
 said {cable} {minutes} {r} e = record {
   answer = e;
-  distance = λ b f. rw (answered-pair cable minutes (sym e ∙ f)) (share-promised cable minutes (answered-accepted cable minutes (sym e ∙ f)));
+  distance = λ low high f.
+      let given = sym e ∙ reported r f in
+      rw (answered-pair cable minutes given) (share-promised cable minutes (answered-accepted cable minutes given));
 }
+
+-- "for every accepted cable and minute count some order has a gap below one millionth": of every cable and minute count that is answered with a pair
+pub answered-gap : (cable : Cable) (minutes : ℕ) {p : Bounds} → shareAnswer cable minutes ≡ S.Pair p → MillionthGap (share (numbersOf (inUse defaultDiffusivity cable)) minutes)
+answered-gap cable minutes e =
+    let c = numbersOf (inUse defaultDiffusivity cable) in
+    let a = answered-accepted cable minutes e in
+    record { order = millionthOrder c minutes a; bounds = millionth-bounds c minutes a; gap = millionth-gap c minutes a }
 
 -- no lower fraction of the exact share exceeds an upper one
 pub exact-share-sound : (cable : Cable) (minutes : ℕ) → Accepted (numbersOf (inUse defaultDiffusivity cable)) minutes → exactShare cable minutes ⊴ exactShare cable minutes

@@ -3,6 +3,7 @@ use mathlib.Core.Path.{_≡_}
 use mathlib.Core.Bool.{Bool, true, false, cond}
 use mathlib.Core.List.{[], _∷_}
 use Prim.Native.Nat.{ℕ}
+use lib.IntN.{ℤ}
 use Rattle.cable.specs.Checks.{outside, _to_, checked}
 use Rattle.cable.specs.Stated.{Stated, statedValues, statedRefusal}
 use Rattle.cable.specs.declared.Cable.{Cable}
@@ -10,7 +11,6 @@ use Rattle.cable.specs.declared.Refusal.{Refusal}
 use Rattle.cable.specs.declared.Place.the-variants.{None}
 use Rattle.cable.specs.declared.CableCheck.{CableCheck}
 use Rattle.cable.specs.declared.CableCheck.the-variants as C
-use Rattle.bounds.specs.declared.Bounds.{Bounds}
 use Rattle.share.specs.Pair.{sharePair}
 use Rattle.share.specs.Promises.{shareWidth, exactShare, Promised}
 use Rattle.share.specs.declared.ShareAnswer.{ShareAnswer}
@@ -45,5 +45,5 @@ statedShare (Refused f) = statedRefusal f
 
 pub record ShareSaid (cable : Cable) (minutes : ℕ) (r : ShareAnswer) : Type 0 where
   pub answer : r ≡ shareAnswer cable minutes
-  -- 'What the distances say', of every pair that is reported
-  pub distance : (b : Bounds) → r ≡ Pair b → Promised shareWidth (exactShare cable minutes) b
+  -- 'What the distances say', of every pair that is stated
+  pub distance : (low high : ℤ) → statedShare r ≡ statedValues (low ∷ high ∷ []) → Promised shareWidth (exactShare cable minutes) (record { low = low; high = high })

@@ -1,11 +1,16 @@
 -- Worked examples of the answer: document 01, 'When the desk is told no', the order of the share, and that an accepted cable is answered.
 use mathlib.Core.Path.{_≡_, refl}
+use mathlib.Core.List.{[], _∷_}
 use Prim.Native.Nat.{ℕ}
+use lib.IntN.{ℤ, pos}
+use Rattle.exact.specs.Value.{Value}
 use Rattle.cable.specs.Checks.{checked, outsideField}
+use Rattle.cable.specs.Stated.{no-place}
 use Rattle.cable.specs.declared.Cable.{Cable}
 use Rattle.cable.specs.declared.Place.the-variants.{None, Field}
 use Rattle.share.specs.Pair.{sharePair}
-use Rattle.share.specs.Answer.{shareAnswer, refused9}
+use Rattle.share.specs.Promises.{shareWidth, Promised}
+use Rattle.share.specs.Answer.{shareAnswer, statedShare}
 use Rattle.share.specs.declared.ShareAnswer.the-variants.{Pair, Refused}
 
 -- cable A of 'Cases', with another diameter and another slow rate
@@ -31,7 +36,7 @@ two-days : shareAnswer (cableA 500 100) 2880 ≡ Pair (sharePair (cableA 500 100
 unfolding shareAnswer checked outsideField
 two-days = refl
 
-no-minutes : shareAnswer (cableA 500 100) 0 ≡ Refused refused9
+no-minutes : shareAnswer (cableA 500 100) 0 ≡ Refused (record { number = 9; place = None })
 unfolding shareAnswer checked outsideField
 no-minutes = refl
 
@@ -43,3 +48,19 @@ diameter-before-rates = refl
 rates-before-minutes : shareAnswer (cableA 500 1001) 2881 ≡ Refused (record { number = 3; place = None })
 unfolding shareAnswer checked outsideField
 rates-before-minutes = refl
+
+-- ---- the width
+
+-- "high − low at most 50", whatever the exact value is
+fifty-one-apart : (exact : Value) → Promised shareWidth exact (record { low = pos 340150; high = pos 340201 }) → ⊥
+fifty-one-apart exact p = p .narrow .le
+
+-- ---- the paper's numbers
+
+-- "low and high"
+stated-low-first : (low high : ℤ) → statedShare (Pair (record { low = low; high = high })) ≡ record { number = 0; kind = no-place; place = 0; values = low ∷ high ∷ [] }
+stated-low-first low high = refl
+
+stated-9 : statedShare (shareAnswer (cableA 500 100) 2881) ≡ record { number = 9; kind = no-place; place = 0; values = [] }
+unfolding shareAnswer checked outsideField
+stated-9 = refl

@@ -15,7 +15,7 @@ use Rattle.sheet.specs.declared.RecordCheck.the-variants.{Accepted, Refu
 use Rattle.sheet.proofs.RecordChecks.{accepted-record}
 
 same-after : (c : RecordCheck) (f g : LoadRecord → Chain) → ((r : LoadRecord) → c ≡ Accepted r → f r ≡ g r) → afterRecord c f ≡ afterRecord c g
-same-after (Accepted r) f g h = ap (withStep (stepOf r)) (h r refl)
+same-after (Accepted r) f g h = cc (h r refl)
 same-after (Refused e) f g h = refl
 
 -- any two counts above the minutes give the same chain

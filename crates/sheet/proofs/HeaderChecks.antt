@@ -15,7 +15,7 @@ use Rattle.cable.specs.declared.CableCheck.{CableCheck}
 use Rattle.cable.specs.declared.CableCheck.the-variants as C
 use Rattle.cable.proofs.Acceptance.{accepted-is}
 use Rattle.sheet.specs.Layout.{wrongLength}
-use Rattle.sheet.specs.Header.{cableOf, startingCurrent, firstLink, headerOf, mostAmperes, afterCable, checkedHeader}
+use Rattle.sheet.specs.Header.{cableOf, startingCurrent, firstLink, headerOf, mostStart, afterCable, checkedHeader}
 use Rattle.sheet.specs.declared.Header.{Header}
 use Rattle.sheet.specs.declared.HeaderCheck.the-variants.{Accepted, Refused}
 
@@ -30,11 +30,11 @@ module _ (s : List ℕ) where
     cable-refused c = rw (e, c, checkedHeader)
 
     module _ {c : Cable} (a : checked (cableOf s) ≡ C.Accepted c) where
-      pub start-refused : mostAmperes < startingCurrent s → Refused (record { number = 4; place = None }) ≡ checkedHeader s
+      pub start-refused : mostStart < startingCurrent s → Refused (record { number = 4; place = None }) ≡ checkedHeader s
       unfolding checkedHeader
       start-refused h = rw (e, a, lt-ltb _ _ h, checkedHeader)
 
-      pub header-accepted : startingCurrent s ≤ mostAmperes → Accepted (record { cable = c; start = startingCurrent s; link = firstLink s }) ≡ checkedHeader s
+      pub header-accepted : startingCurrent s ≤ mostStart → Accepted (record { cable = c; start = startingCurrent s; link = firstLink s }) ≡ checkedHeader s
       unfolding checkedHeader
       header-accepted h =
           ap (λ d. Accepted (record { cable = d; start = startingCurrent s; link = firstLink s })) (accepted-is (cableOf s) c a)
@@ -44,10 +44,10 @@ module _ (s : List ℕ) where
 pub record HeaderAccepted (s : List ℕ) (h : Header) : Type 0 where
   pub length-right : wrongLength (length s) ≡ false
   pub cable-accepted : checked (h .cable) ≡ C.Accepted (h .cable)
-  pub start-most : h .start ≤ mostAmperes
+  pub start-most : h .start ≤ mostStart
   pub is : h ≡ headerOf s
 
-accepted : (s : List ℕ) (t u : Bool) (a : CableCheck) {h : Header} → wrongLength (length s) ≡ t → checked (cableOf s) ≡ a → ltb mostAmperes (startingCurrent s) ≡ u
+accepted : (s : List ℕ) (t u : Bool) (a : CableCheck) {h : Header} → wrongLength (length s) ≡ t → checked (cableOf s) ≡ a → ltb mostStart (startingCurrent s) ≡ u
     → cond t (Refused (record { number = 1; place = None })) (afterCable a (cond u (Refused (record { number = 4; place = None })) (Accepted (headerOf s)))) ≡ Accepted h
     → HeaderAccepted s h
 accepted s true u a p q r e = let z : _≡_ {A = ℕ} 0 1 = cc in absurd (omega arith)
@@ -59,11 +59,11 @@ accepted s false false (C.Accepted c) {h} p q r e =
     (record {
       length-right = p;
       cable-accepted = q ∙ ap C.Accepted (accepted-is (cableOf s) c q);
-      start-most = ltb-false mostAmperes (startingCurrent s) r;
+      start-most = ltb-false mostStart (startingCurrent s) r;
       is = refl;
     })
 
 pub accepted-header : (s : List ℕ) {h : Header} → checkedHeader s ≡ Accepted h → HeaderAccepted s h
 unfolding checkedHeader
 accepted-header s e =
-    accepted s (wrongLength (length s)) (ltb mostAmperes (startingCurrent s)) (checked (cableOf s)) refl refl refl e
+    accepted s (wrongLength (length s)) (ltb mostStart (startingCurrent s)) (checked (cableOf s)) refl refl refl e

@@ -11,7 +11,7 @@ use Rattle.cable.specs.Checks.{outside, _to_}
 use Rattle.cable.specs.declared.Refusal.{Refusal}
 use Rattle.sheet.specs.Layout.{recordCount, wrongLength}
 use Rattle.sheet.specs.Header.{mostAmperes}
-use Rattle.sheet.specs.Records.{mostMinutes, origin, recordOf, recordAt, refusedAt, checkedRecord}
+use Rattle.sheet.specs.Records.{leastMinutes, mostMinutes, origin, recordOf, recordAt, refusedAt, checkedRecord}
 use Rattle.sheet.specs.declared.LoadRecord.{LoadRecord}
 use Rattle.sheet.specs.declared.RecordRead.{RecordRead}
 use Rattle.sheet.specs.declared.RecordRead.the-variants.{Held, Missing}
@@ -43,11 +43,11 @@ module _ (before : LoadRecord) {read : RecordRead} where
   link-refused e = rw e
 
   module _ {r : LoadRecord} (e : read ≡ Held r) where
-    pub minutes-refused : outside (1 to mostMinutes) (r .minutes) ≡ true → refusedAt 6 (r .number) ≡ checkedRecord before read
+    pub minutes-refused : outside (leastMinutes to mostMinutes) (r .minutes) ≡ true → refusedAt 6 (r .number) ≡ checkedRecord before read
     unfolding checkedRecord
     minutes-refused o = rw e (rw (o, checkedRecord))
 
-    module _ (o : outside (1 to mostMinutes) (r .minutes) ≡ false) where
+    module _ (o : outside (leastMinutes to mostMinutes) (r .minutes) ≡ false) where
       pub amperes-refused : mostAmperes < r .amperes → refusedAt 7 (r .number) ≡ checkedRecord before read
       unfolding checkedRecord
       amperes-refused h = rw e (rw (o, lt-ltb _ _ h, checkedRecord))
@@ -63,11 +63,11 @@ module _ (before : LoadRecord) {read : RecordRead} where
 
 -- what is known of a record once it is accepted after another
 pub record RecordAccepted (before r : LoadRecord) : Type 0 where
-  pub minutes-within : outside (1 to mostMinutes) (r .minutes) ≡ false
+  pub minutes-within : outside (leastMinutes to mostMinutes) (r .minutes) ≡ false
   pub amperes-most : r .amperes ≤ mostAmperes
   pub minutes-fall : r .minutes < before .minutes
 
-accepted : (t u v : Bool) (f g h : Refusal) (before q : LoadRecord) {r : LoadRecord} → outside (1 to mostMinutes) (q .minutes) ≡ t → ltb mostAmperes (q .amperes) ≡ u → leb (before .minutes) (q .minutes) ≡ v
+accepted : (t u v : Bool) (f g h : Refusal) (before q : LoadRecord) {r : LoadRecord} → outside (leastMinutes to mostMinutes) (q .minutes) ≡ t → ltb mostAmperes (q .amperes) ≡ u → leb (before .minutes) (q .minutes) ≡ v
     → cond t (Refused f) (cond u (Refused g) (cond v (Refused h) (Accepted q))) ≡ Accepted r
     → RecordAccepted before r
 accepted true u v f g h before q o p w e = let z : _≡_ {A = ℕ} 0 1 = cc in absurd (omega arith)
@@ -85,5 +85,5 @@ accepted false false false f g h before q {r} o p w e =
 pub accepted-record : (before : LoadRecord) (read : RecordRead) {r : LoadRecord} → checkedRecord before read ≡ Accepted r → RecordAccepted before r
 unfolding checkedRecord
 accepted-record before (Held q) e =
-    accepted (outside (1 to mostMinutes) (q .minutes)) (ltb mostAmperes (q .amperes)) (leb (before .minutes) (q .minutes)) _ _ _ before q refl refl refl e
+    accepted (outside (leastMinutes to mostMinutes) (q .minutes)) (ltb mostAmperes (q .amperes)) (leb (before .minutes) (q .minutes)) _ _ _ before q refl refl refl e
 accepted-record before Missing e = let z : _≡_ {A = ℕ} 0 1 = cc in absurd (omega arith)

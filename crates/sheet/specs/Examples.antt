@@ -11,6 +11,7 @@ use Rattle.sheet.specs.Layout.{wrongLength}
 use Rattle.sheet.specs.Header.{cableOf, checkedHeader}
 use Rattle.sheet.specs.Records.{recordOf, recordAt, checkedRecord}
 use Rattle.sheet.specs.Chain.{Step, steps, refused, chainFrom, chainOf}
+use Rattle.sheet.specs.declared.Header.{Header}
 use Rattle.sheet.specs.declared.HeaderCheck.{HeaderCheck}
 use Rattle.sheet.specs.declared.HeaderCheck.the-variants.{Accepted, Refused}
 
@@ -43,21 +44,26 @@ at-record number place = record { number = number; place = P.Record place }
 
 -- ---- the header
 
+abbrev headerA : ℕ → ℕ → Header
+headerA start link =
+    record {
+      cable =
+          record {
+            diameter = 500;
+            depth = 1000;
+            diffusivity = 500;
+            «surface_ratio» = 600000;
+            «fast_weight» = 500000;
+            «fast_rate» = 1000;
+            «slow_rate» = 100;
+            rated = 400;
+          };
+      start = start;
+      link = link;
+    }
+
 -- every field, the starting current and the first link
-header-read : checkedHeader (sheetA 300 0 []) ≡ Accepted (record {
-  cable = record {
-    diameter = 500;
-    depth = 1000;
-    diffusivity = 500;
-    «surface_ratio» = 600000;
-    «fast_weight» = 500000;
-    «fast_rate» = 1000;
-    «slow_rate» = 100;
-    rated = 400;
-  };
-  start = 300;
-  link = 0;
-})
+header-read : checkedHeader (sheetA 300 2 (replicate 12 0)) ≡ Accepted (headerA 300 2)
 unfolding checkedHeader wrongLength checked outsideField cableOf bigEndian
 header-read = refl
 
@@ -68,6 +74,11 @@ refused-none number = Refused (record { number = number; place = P.None })
 length-35 : checkedHeader (take 35 (sheetA 300 0 [])) ≡ refused-none 1
 unfolding checkedHeader wrongLength
 length-35 = refl
+
+-- 37 bytes
+length-37 : checkedHeader (sheetA 300 0 (0 ∷ [])) ≡ refused-none 1
+unfolding checkedHeader wrongLength
+length-37 = refl
 
 -- 49 records
 length-330 : checkedHeader (sheetA 300 0 (replicate 294 0)) ≡ refused-none 1
@@ -88,6 +99,11 @@ rates-before-start = refl
 start-before-link : checkedHeader (sheetA 4001 1 []) ≡ refused-none 4
 unfolding checkedHeader wrongLength checked outsideField cableOf bigEndian
 start-before-link = refl
+
+-- 4,000 A is not above 4,000
+start-4000 : checkedHeader (sheetA 4000 0 []) ≡ Accepted (headerA 4000 0)
+unfolding checkedHeader wrongLength checked outsideField cableOf bigEndian
+start-4000 = refl
 
 -- ---- the chain
 
@@ -114,6 +130,11 @@ link-of-a-record = refl
 no-minutes : chainOf (sheetA 300 1 (recordBytes 0 4001 0)) ≡ refused (at-record 6 1)
 unfolding chainFrom checkedRecord recordAt recordOf wrongLength bigEndian
 no-minutes = refl
+
+-- 1 minute is in range
+one-minute : chainOf (sheetA 300 1 (recordBytes 1 200 0)) ≡ steps (step 1 1 200 ∷ [])
+unfolding chainFrom checkedRecord recordAt recordOf wrongLength bigEndian
+one-minute = refl
 
 -- 2,881 minutes
 many-minutes : chainOf (sheetA 300 1 (recordBytes 2881 300 0)) ≡ refused (at-record 6 1)

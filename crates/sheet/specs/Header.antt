@@ -41,7 +41,11 @@ firstLink s = bigEndian s 34 2
 abbrev pub headerOf : List ℕ → Header
 headerOf s = record { cable = cableOf s; start = startingCurrent s; link = firstLink s }
 
--- "starting current above 4,000", and the same for a record's amperes
+-- "starting current above 4,000"
+abbrev pub mostStart : ℕ
+mostStart = 4000
+
+-- "record's amperes above 4,000"
 abbrev pub mostAmperes : ℕ
 mostAmperes = 4000
 
@@ -54,7 +58,7 @@ unfoldable pub checkedHeader : List ℕ → HeaderCheck
 checkedHeader s =
     cond (wrongLength (length s)) (Refused (record { number = 1; place = None }))
     (afterCable (checked (cableOf s))
-    (cond (ltb mostAmperes (startingCurrent s)) (Refused (record { number = 4; place = None }))
+    (cond (ltb mostStart (startingCurrent s)) (Refused (record { number = 4; place = None }))
     (Accepted (headerOf s))))
 
 abbrev pub headerRefuses : HeaderCheck → Bool

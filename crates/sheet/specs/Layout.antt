@@ -17,10 +17,10 @@ mostRecords = 48
 abbrev pub recordStart : ℕ → ℕ
 recordStart k = headerLength + recordLength * (k - 1)
 
--- How many records a sheet of a length has.
+-- How many records a sheet of `size` bytes has.
 abbrev pub recordCount : ℕ → ℕ
-recordCount length = (length - headerLength) / recordLength
+recordCount size = (size - headerLength) / recordLength
 
 -- Refusal 1: "length is not 36 + 6n, n 0 to 48"
 unfoldable pub wrongLength : ℕ → Bool
-wrongLength length = ltb mostRecords (recordCount length) || not (eqb length (headerLength + recordLength * recordCount length))
+wrongLength size = ltb mostRecords (recordCount size) || not (eqb size (headerLength + recordLength * recordCount size))

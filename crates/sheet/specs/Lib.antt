@@ -3,6 +3,5 @@ pub mod Layout
 pub mod Header
 pub mod Records
 pub mod Chain
-pub mod Stated
 pub mod Promises
 pub mod Examples

@@ -16,6 +16,9 @@ use Rattle.sheet.specs.declared.RecordCheck.{RecordCheck}
 use Rattle.sheet.specs.declared.RecordCheck.the-variants.{Accepted, Refused}
 
 -- "minutes before now (1 to 2,880)"
+abbrev pub leastMinutes : ℕ
+leastMinutes = 1
+
 abbrev pub mostMinutes : ℕ
 mostMinutes = 2880
 
@@ -52,7 +55,7 @@ refusedAt number place = Refused (record { number = number; place = P.Record pla
 unfoldable pub checkedRecord : LoadRecord → RecordRead → RecordCheck
 checkedRecord before Missing = refusedAt 5 (before .number)
 checkedRecord before (Held r) =
-    cond (outside (1 to mostMinutes) (r .minutes)) (refusedAt 6 (r .number))
+    cond (outside (leastMinutes to mostMinutes) (r .minutes)) (refusedAt 6 (r .number))
     (cond (ltb mostAmperes (r .amperes)) (refusedAt 7 (r .number))
     (cond (leb (before .minutes) (r .minutes)) (refusedAt 8 (r .number))
     (Accepted r)))

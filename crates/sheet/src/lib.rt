@@ -55,7 +55,11 @@ const RECORD_LENGTH: usize = 6;
 
 const MOST_RECORDS: usize = 48;
 
+const LEAST_MINUTES: u32 = 1;
+
 const MOST_MINUTES: u32 = 2880;
+
+const MOST_START: u32 = 4000;
 
 const MOST_AMPERES: u32 = 4000;
 
@@ -79,23 +83,23 @@ fn wide(byte: u8) -> u32
     byte as u32
 }
 
-// How many records a sheet of this length holds.
-fn record_count(length: usize) -> usize
-    ensures { λ r. ⌜ r ≡ recordCount length ⌝ }
+// How many records a sheet of `size` bytes holds.
+fn record_count(size: usize) -> usize
+    ensures { λ r. ⌜ r ≡ recordCount size ⌝ }
 {
-    if length < HEADER_LENGTH {
+    if size < HEADER_LENGTH {
         0
     } else {
-        (length - HEADER_LENGTH) / RECORD_LENGTH
+        (size - HEADER_LENGTH) / RECORD_LENGTH
     }
 }
 
-// Whether refusal 1 meets a sheet of this length.
-fn wrong_length(length: usize) -> bool
-    ensures { λ r. ⌜ r ≡ wrongLength length ⌝ }
+// Whether refusal 1 meets a sheet of `size` bytes.
+fn wrong_length(size: usize) -> bool
+    ensures { λ r. ⌜ r ≡ wrongLength size ⌝ }
 {
-    let count = record_count(length);
-    MOST_RECORDS < count || length != HEADER_LENGTH + RECORD_LENGTH * count
+    let count = record_count(size);
+    MOST_RECORDS < count || size != HEADER_LENGTH + RECORD_LENGTH * count
 }
 
 // Field `number` of the table, counted from 1.
@@ -151,7 +155,7 @@ pub fn check_header(sheet: &[u8]) -> HeaderCheck
         return HeaderCheck::Refused(cable::refusal_of(checked));
     };
     let start = starting_current(sheet);
-    if MOST_AMPERES < start {
+    if MOST_START < start {
         return HeaderCheck::Refused(Refusal {
             number: 4,
             place: Place::None,
@@ -191,11 +195,11 @@ pub fn before_first(start: u32, link: usize) -> LoadRecord
 pub fn record_at(sheet: &[u8], number: usize) -> RecordRead
     ensures { λ r. ⌜ RecordReadAs (now (sheet .entry)) number r ⌝ }
 {
-    let length = sheet.len();
-    if wrong_length(length) {
+    let size = sheet.len();
+    if wrong_length(size) {
         return RecordRead::Missing;
     }
-    if record_count(length) < number {
+    if record_count(size) < number {
         return RecordRead::Missing;
     }
     if number == 0 {
@@ -227,7 +231,7 @@ pub fn check_record(before: LoadRecord, read: RecordRead) -> RecordCheck
     let RecordRead::Held(record) = read else {
         return refused_at(5, before.number);
     };
-    if cable::outside(record.minutes, 1, MOST_MINUTES) {
+    if cable::outside(record.minutes, LEAST_MINUTES, MOST_MINUTES) {
         return refused_at(6, record.number);
     }
     if MOST_AMPERES < record.amperes {

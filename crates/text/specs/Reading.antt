@@ -1,5 +1,5 @@
--- Numbers read from a text, a list of ASCII codes: "digits only, leading zeros allowed. A decimal beyond its parameter's type is handed on as the
--- type's largest value."
+-- Numbers read from a text, a list of ASCII codes. A whole number is one digit or more and nothing else; leading zeros change nothing, and digits that
+-- spell more than the most that is asked for are read as the most.
 use mathlib.Core.Bool.{Bool, true, false, cond, _&&_}
 use mathlib.Core.List.{List, [], _∷_}
 use Prim.Native.Nat.{ℕ, _+_, _-_, _*_, min}

@@ -10,17 +10,15 @@ use native.Mathlib.Omega.{arith}
 use Rattle.numbers.specs.Fraction.{Frac, _≼_, _≈_, _per_, whole, 1F, _⊕_, _⊗_}
 use Rattle.numbers.proofs.Fractions.{refl≼, trans≼, add≼, mul≼}
 use Rattle.numbers.proofs.FractionProver.{qv, qn, _+'_, _*'_, q-from, le, eq}
-use Rattle.numbers.proofs.SignedFractions.{ofFrac≼}
 use Rattle.bounds.specs.Pair.{Pair, scaledP, quotientP, atMostP}
 use Rattle.exact.specs.Exponential.{term, expSum}
-use Rattle.exact.specs.Value.{expNeg}
 use Rattle.exact.proofs.Exponential.{term≼, sum-over, one-expSum}
-use Rattle.exact.proofs.Certified.{Below, Above, below-mono, above-mono, below-product, above-product, below-zero, above-one, below-high, above-low}
+use Rattle.exact.proofs.Certified.{Below, Above, below-mono, above-mono, below-product, above-product, below-zero, above-one}
 use Rattle.model.specs.Scale.{one, farFrom, inverseELow, inverseEHigh}
 use Rattle.model.specs.Exponential.{expTerm, fractionExpPair, decayed, expPair}
 use Rattle.model.specs.Exponential as model
 use Rattle.model.proofs.Exponential.{exp-room}
-use Rattle.model.specs.Encloses.{unit, Encloses}
+use Rattle.model.specs.Encloses.{unit}
 use Rattle.model.proofs.Enclosure.Units.{unit-times-low, unit-times-high, unit-times-over, unit-part-low, unit-part-high, unit-add, unit-whole, Floor, quotient-floor, floor-at-most-one, inverse-low, inverse-over, of-lesser}
 
 -- in units of 2^-30 the low end is certified below e^(-ξ), the high end above
@@ -168,9 +166,3 @@ exp-in num den z = go (ltb farFrom (num / den)) refl
         exp-in-same (whole-and-rest num den z)
         (decayed-exp-in (num / den)
         (fraction-exp-in rest ((num % den) per den) (quotient-floor (num % den) den z) (rest-at-most-one num den z)))
-
--- and so as an exact value
-pub exp-encloses : (num den : ℕ) → 0 < den → Encloses one (expPair num den) (expNeg (num per den))
-exp-encloses num den z =
-    let e = exp-in num den z in
-    record { low-at-most = record { most = λ n t. ofFrac≼ (below-high (e .below) n) }; high-at-least = record { least = λ n t. ofFrac≼ (above-low (e .above) n) } }

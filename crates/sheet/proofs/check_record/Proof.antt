@@ -3,7 +3,7 @@ use mathlib.Core.Path.{_≡_, sym, _∙_}
 use mathlib.Core.Bool.{false}
 use borrow.Author.Needs.{needs}
 use Rattle.cable.specs.Checks.{outside, _to_}
-use Rattle.sheet.specs.Records.{mostMinutes}
+use Rattle.sheet.specs.Records.{leastMinutes, mostMinutes}
 use Rattle.sheet.proofs.RecordChecks.{link-refused, minutes-refused, amperes-refused, order-refused, record-accepted}
 use Rattle.sheet.proofs.check_record.Statement.{statement}
 use Rattle.sheet.proofs.check_record.Tie as tie
@@ -32,7 +32,7 @@ returns-2 c =
     record { answer = c .refused-at2 .ensures ∙ minutes-refused _ (k .before .before .read .given .1) (sym (k .outside .ensures) ∙ c .before .if1 .taken) }
 
 -- the minutes passed
-within : (k : tie.Else1) → outside (1 to mostMinutes) (k .before .before .before .read .given .0 .0 .minutes) ≡ false
+within : (k : tie.Else1) → outside (leastMinutes to mostMinutes) (k .before .before .before .read .given .0 .0 .minutes) ≡ false
 within k = sym (k .before .outside .ensures) ∙ k .if1 .left
 
 refused-at-requires-3 : tie.Need-refused-at-requires-3

@@ -14,7 +14,7 @@ use Rattle.table_1972.proofs.share_after.Statement.{statement}
 use Rattle.table_1972.proofs.share_after.Tie as tie
 
 said-in-millionths : {cable : Cable} {minutes : ℕ} (r : ShareAnswer) → ShareSaid cable minutes r → InMillionths r
-said-in-millionths (Pair b) s = s .distance b refl .range
+said-in-millionths (Pair b) s = s .distance (b .low) (b .high) refl .range
 said-in-millionths (Refused f) s = tt
 
 module _ (cable : Cable) (hours : ℕ) where

@@ -1,14 +1,27 @@
--- The loop's invariant: no more words are read than wanted, for which there is room. The measure is what is left of them.
-use mathlib.Core.Path.{refl}
-use Prim.Native.Nat.{_-_, _≤_}
+-- The loop's invariant: no more words are read than wanted, for which there is room, and nothing but 0 stands where none was read. The measure is
+-- what is left of them.
+use mathlib.Core.Path.{_≡_, refl, _∙_}
+use mathlib.Core.List.{List}
+use Prim.Native.Nat.{ℕ, zero, suc, _+_, _-_, _≤_}
+use lib.ListN.{getD, set, replicate}
+use lib.Seq.{getD-set-other}
 use native.Mathlib.Omega.{arith}
 use borrow.Author.Needs.{needs}
 use borrow.Author.Tests.{eq-eqb, ne-eqb}
+use Rattle.rating.specs.Words.{ZeroFrom}
 use Rattle.rating.proofs.words.read.Statement.{statement}
 use Rattle.rating.proofs.words.read.Tie as tie
 
+none-read : (n k : ℕ) → _≡_ {A = ℕ} (getD (replicate n 0) k 0) 0
+none-read zero k = refl
+none-read (suc n) zero = refl
+none-read (suc n) (suc k) = none-read n k
+
+one-more : (k x : ℕ) (values : List ℕ) → ZeroFrom k values → ZeroFrom (k + 1) (set values k x)
+one-more k x values rest j h = getD-set-other values k j x 0 (λ q. absurd (omega arith)) ∙ rest j (omega arith)
+
 abbrev Inv-loop : tie.InvT-loop
-Inv-loop words wanted values₀ k₀ values k = k ≤ wanted
+Inv-loop words wanted values₀ k₀ values k = (k ≤ wanted) × ZeroFrom k values
 
 abbrev μ-loop : tie.MeasureT-loop
 μ-loop words wanted values₀ k₀ values k = wanted - k
@@ -17,10 +30,10 @@ add-if1 : tie.Need-add-if1 Inv-loop μ-loop
 add-if1 c = search needs
 
 returns : tie.Need-returns Inv-loop μ-loop
-returns c = rw (ne-eqb _ _ (c .if1 .taken)) refl
+returns c = record { count = rw (ne-eqb _ _ (c .if1 .taken)) refl; faulty = tt; rest = λ k h. none-read 32 k }
 
 loop-holds : tie.Need-loop-holds Inv-loop μ-loop
-loop-holds c = search needs
+loop-holds c = (omega arith, λ k h. none-read 32 k)
 
 add-word-at : tie.Need-add-word-at Inv-loop μ-loop
 add-word-at c = search needs
@@ -38,7 +51,13 @@ add-t14 : tie.Need-add-t14 Inv-loop μ-loop
 add-t14 c = search needs
 
 returns-2 : tie.Need-returns-2 Inv-loop μ-loop
-returns-2 c = rw (eq-eqb _ _ (c .before .before .before .before .before .if1 .left)) refl
+returns-2 c =
+    let turn = c .before .before .before .before in
+    record {
+      count = rw (eq-eqb _ _ (turn .before .if1 .left)) refl;
+      faulty = (omega arith, omega arith);
+      rest = λ k h. turn .loop .inv .1 k (omega arith);
+    }
 
 mul-values : tie.Need-mul-values Inv-loop μ-loop
 mul-values c = search needs
@@ -53,10 +72,17 @@ loop-less : tie.Need-loop-less Inv-loop μ-loop
 loop-less c = search needs
 
 loop-again : tie.Need-loop-again Inv-loop μ-loop
-loop-again c = search needs
+loop-again c =
+    let turn = c .before .before .before .before .before .loop in
+    (omega arith, one-more (turn .k) (c .before .word .given .0 .0) (turn .values) (turn .inv .1))
 
 returns-3 : tie.Need-returns-3 Inv-loop μ-loop
-returns-3 c = rw (eq-eqb _ _ (c .before .before .if1 .left)) refl
+returns-3 c =
+    record {
+      count = rw (eq-eqb _ _ (c .before .before .if1 .left)) refl;
+      faulty = tt;
+      rest = λ k h. c .before .loop .inv .1 k (omega arith);
+    }
 
 pub read-spec : {M : Type 1} → statement M
 read-spec =
