@@ -5,19 +5,18 @@
  */
 #include <inttypes.h>
 #include <stdio.h>
-#include <string.h>
 
 #include "kechmowad.h"
 
-static const uint32_t cable[KECHMOWAD_CABLE_LENGTH] = {
-    [KECHMOWAD_DIAMETER] = 500,        /* 50 mm */
-    [KECHMOWAD_DEPTH] = 1000,          /* 1 m */
-    [KECHMOWAD_DIFFUSIVITY] = 500,     /* 0.5e-6 m2/s */
-    [KECHMOWAD_SURFACE] = 600000,      /* 0.6 of the conductor's steady rise */
-    [KECHMOWAD_FAST_WEIGHT] = 500000,  /* half of the attainment is fast */
-    [KECHMOWAD_FAST_RATE] = 1000,
-    [KECHMOWAD_SLOW_RATE] = 100,
-    [KECHMOWAD_RATED_CURRENT] = 400,
+static const struct kechmowad_cable usual = {
+    .diameter = 500,          /* 50 mm */
+    .depth = 1000,            /* 1 m */
+    .diffusivity = 500,       /* 0.5e-6 m2/s */
+    .surface_ratio = 600000,  /* 0.6 of the conductor's steady rise */
+    .fast_weight = 500000,    /* half of the attainment is fast */
+    .fast_rate = 1000,
+    .slow_rate = 100,
+    .rated = 400,
 };
 
 /* The same cable in a sheet's bytes, big-endian. */
@@ -39,19 +38,32 @@ static const uint8_t looping[] = {
     0x00, 0x1E, 0x01, 0x2C, 0x00, 0x01,  /* record 1: 30 minutes, 300 A, next 1 */
 };
 
+static const char *word_of_kind(int64_t kind)
+{
+    switch (kind) {
+    case KECHMOWAD_NONE:
+        return "no place";
+    case KECHMOWAD_FIELD:
+        return "field";
+    case KECHMOWAD_RECORD:
+        return "record";
+    case KECHMOWAD_HOUR:
+        return "hour";
+    case KECHMOWAD_INPUT:
+        return "input";
+    default: /* of a later version */
+        return "place";
+    }
+}
+
 /* Prints the refusal, and says so, where an answer is one. */
 static int refused(const int64_t answer[])
 {
-    static const char *const kinds[] = {
-        [KECHMOWAD_NO_PLACE] = "no place", [KECHMOWAD_FIELD] = "field",
-        [KECHMOWAD_RECORD] = "record",     [KECHMOWAD_HOUR] = "hour",
-        [KECHMOWAD_INPUT] = "input",
-    };
     int64_t kind = answer[KECHMOWAD_PLACE_KIND];
     if (answer[KECHMOWAD_REFUSAL] == 0)
         return 0;
-    printf("refused %" PRId64 " at %s", answer[KECHMOWAD_REFUSAL], kinds[kind]);
-    if (kind != KECHMOWAD_NO_PLACE)
+    printf("refused %" PRId64 " at %s", answer[KECHMOWAD_REFUSAL], word_of_kind(kind));
+    if (kind != KECHMOWAD_NONE)
         printf(" %" PRId64, answer[KECHMOWAD_PLACE]);
     printf("\n");
     return 1;
@@ -74,8 +86,9 @@ static void print_value(const char *name, const int64_t answer[], const char *un
 
 int main(void)
 {
+    const uint32_t *cable = kechmowad_fields(&usual);
+    struct kechmowad_cable thin = usual;
     int64_t answer[KECHMOWAD_ANSWER_LENGTH];
-    uint32_t thin[KECHMOWAD_CABLE_LENGTH];
     uint16_t hours[24];
 
     kechmowad_share(cable, 60, answer);
@@ -92,9 +105,8 @@ int main(void)
     kechmowad_current(cable, 100, 100, 60, answer);
     print_value("emergency current", answer, "A");
 
-    memcpy(thin, cable, sizeof thin);
-    thin[KECHMOWAD_DIAMETER] = 99;
-    kechmowad_share(thin, 60, answer);
+    thin.diameter = 99;
+    kechmowad_share(kechmowad_fields(&thin), 60, answer);
     print_pair("cable of 9.9 mm", answer);
 
     kechmowad_rise(looping, sizeof looping, answer);

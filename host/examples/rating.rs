@@ -5,14 +5,14 @@
 use kechmowad::{current, factor, rise, share, sheet, Bounds, Cable, Refusal};
 
 const CABLE: Cable = Cable {
-    diameter: 500,        // 50 mm
-    depth: 1_000,         // 1 m
-    diffusivity: 500,     // 0.5e-6 m²/s
-    surface: 600_000,     // 0.6 of the conductor's steady rise
-    fast_weight: 500_000, // half of the attainment is fast
+    diameter: 500,          // 50 mm
+    depth: 1_000,           // 1 m
+    diffusivity: 500,       // 0.5e-6 m²/s
+    surface_ratio: 600_000, // 0.6 of the conductor's steady rise
+    fast_weight: 500_000,   // half of the attainment is fast
     fast_rate: 1_000,
     slow_rate: 100,
-    rated_current: 400,
+    rated: 400,
 };
 
 fn main() -> Result<(), Refusal> {

@@ -30,7 +30,7 @@ pub struct Cable {
     /// s: soil diffusivity, 10^-9 m²/s, 100 to 2,000, or 0, which stands for 500.
     pub diffusivity: u32,
     /// k: steady surface rise over conductor rise, millionths, 0 to 1,000,000.
-    pub surface: u32,
+    pub surface_ratio: u32,
     /// w: weight of the fast part, millionths, 0 to 1,000,000.
     pub fast_weight: u32,
     /// Fast rate, millionths per second, 1 to 100,000.
@@ -38,20 +38,22 @@ pub struct Cable {
     /// Slow rate, millionths per second, 1 to 100,000 and not above the fast rate.
     pub slow_rate: u32,
     /// Rated current, A, 50 to 2,000.
-    pub rated_current: u32,
+    pub rated: u32,
 }
 
 impl From<[u32; 8]> for Cable {
-    fn from([d, l, s, k, w, fast, slow, rated]: [u32; 8]) -> Cable {
+    fn from(fields: [u32; 8]) -> Cable {
+        let [diameter, depth, diffusivity, surface_ratio, fast_weight, fast_rate, slow_rate, rated] =
+            fields;
         Cable {
-            diameter: d,
-            depth: l,
-            diffusivity: s,
-            surface: k,
-            fast_weight: w,
-            fast_rate: fast,
-            slow_rate: slow,
-            rated_current: rated,
+            diameter,
+            depth,
+            diffusivity,
+            surface_ratio,
+            fast_weight,
+            fast_rate,
+            slow_rate,
+            rated,
         }
     }
 }
@@ -180,6 +182,14 @@ mod tests {
         {
             assert_eq!(*text, format!("refused 8 at {place}: {condition}"));
         }
+    }
+
+    #[test]
+    fn a_null_sheet_without_length_is_refused() {
+        // SAFETY: the header allows a null sheet where the length is 0.
+        let told = ask(|answer| unsafe { raw::kechmowad_rise(std::ptr::null(), 0, answer) });
+        let (condition, place) = (Condition::Length, Place::None);
+        assert_eq!(told, Err(Refusal { condition, place }));
     }
 
     #[test]

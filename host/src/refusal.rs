@@ -2,8 +2,20 @@
 
 use std::fmt;
 
-/// Where a refusal points.
+/// Where a refusal points. Later versions may have more kinds of places, so a match on one
+/// needs an arm for the rest:
+///
+/// ```compile_fail
+/// fn number(place: kechmowad::Place) -> u8 {
+///     use kechmowad::Place::*;
+///     match place {
+///         None => 0,
+///         Field(n) | Record(n) | Hour(n) | Input(n) => n,
+///     }
+/// }
+/// ```
 #[derive(Debug, Clone, Copy, PartialEq, Eq)]
+#[non_exhaustive]
 pub enum Place {
     /// Nowhere in particular.
     None,
@@ -41,8 +53,21 @@ impl Place {
 }
 
 /// Why a calculation is refused: the conditions of the paper's table 'When the desk is told
-/// no', by their numbers.
+/// no', by their numbers. Later versions may have more, so a match on one needs an arm for
+/// the rest:
+///
+/// ```compile_fail
+/// fn of_a_cable(condition: kechmowad::Condition) -> bool {
+///     use kechmowad::Condition::*;
+///     match condition {
+///         Field | Rates => true,
+///         Length | StartingCurrent | Link | RecordMinutes | RecordAmperes | Order => false,
+///         Minutes | Hour | NoLoad | Percent | TooHot => false,
+///     }
+/// }
+/// ```
 #[derive(Debug, Clone, Copy, PartialEq, Eq)]
+#[non_exhaustive]
 #[repr(u8)]
 pub enum Condition {
     /// Length is not 36 + 6n, n 0 to 48.
@@ -100,7 +125,7 @@ impl Condition {
         CONDITIONS.get(row).map(|&(condition, _)| condition)
     }
 
-    /// Its number in the table, 1 to 13.
+    /// Its number in the table, 1 to 13 as yet.
     pub fn number(self) -> u8 {
         self as u8
     }
@@ -121,7 +146,7 @@ pub struct Refusal {
 }
 
 impl Refusal {
-    /// The condition's number, 1 to 13: what the programs print.
+    /// The condition's number, 1 to 13 as yet: what the programs print.
     pub fn number(self) -> u8 {
         self.condition.number()
     }

@@ -6,15 +6,15 @@ const A: Cable = Cable {
     diameter: 500,
     depth: 1_000,
     diffusivity: 500,
-    surface: 600_000,
+    surface_ratio: 600_000,
     fast_weight: 500_000,
     fast_rate: 1_000,
     slow_rate: 100,
-    rated_current: 400,
+    rated: 400,
 };
 
 const B: Cable = Cable {
-    surface: 0,
+    surface_ratio: 0,
     fast_rate: 100_000,
     slow_rate: 100_000,
     ..A
@@ -63,10 +63,7 @@ fn c3_and_c4_factors() {
 
 #[test]
 fn c5_to_c8_currents() {
-    let a_401 = Cable {
-        rated_current: 401,
-        ..A
-    };
+    let a_401 = Cable { rated: 401, ..A };
     for minutes in MINUTES {
         assert_eq!(current(&A, 100, 100, minutes), Ok(400));
         assert_eq!(current(&A, 50, 25, minutes), Ok(200));

@@ -85,11 +85,11 @@ fn a_field_is_told_by_every_call() {
         changed(|cable| cable.diameter = 1_501),
         changed(|cable| cable.depth = 299),
         changed(|cable| cable.diffusivity = 99),
-        changed(|cable| cable.surface = 1_000_001),
+        changed(|cable| cable.surface_ratio = 1_000_001),
         changed(|cable| cable.fast_weight = u32::MAX),
         changed(|cable| cable.fast_rate = 0),
         changed(|cable| cable.slow_rate = 0),
-        changed(|cable| cable.rated_current = 2_001),
+        changed(|cable| cable.rated = 2_001),
     ];
     for (cable, field) in cables.iter().zip(1..) {
         let place = Place::Field(field);

@@ -1,6 +1,6 @@
 // The command, by its name.
 ghost use mathlib.Core.Path.{_≡_};
-ghost use Rattle.rating.specs.Names.{commandOf};
+ghost use Rattle.rating.specs.Names.{commandOf, asksHelp, asksVersion};
 
 pub enum Command {
     Share,
@@ -8,6 +8,8 @@ pub enum Command {
     Current,
     Rise,
     Explain,
+    Help,
+    Version,
     Unknown,
 }
 
@@ -30,5 +32,34 @@ pub fn command_of(word: &[u8]) -> Command
     if text::same(word, b"explain") {
         return Command::Explain;
     }
+    if asks_help(word) {
+        return Command::Help;
+    }
+    if asks_version(word) {
+        return Command::Version;
+    }
     Command::Unknown
+}
+
+// Whether a word is a name of the help.
+fn asks_help(word: &[u8]) -> bool
+    ensures { λ r. ⌜ r ≡ asksHelp (now (word .entry)) ⌝ }
+{
+    if text::same(word, b"help") {
+        return true;
+    }
+    if text::same(word, b"--help") {
+        return true;
+    }
+    text::same(word, b"-h")
+}
+
+// Whether a word is a name of the version.
+fn asks_version(word: &[u8]) -> bool
+    ensures { λ r. ⌜ r ≡ asksVersion (now (word .entry)) ⌝ }
+{
+    if text::same(word, b"version") {
+        return true;
+    }
+    text::same(word, b"--version")
 }

@@ -1,4 +1,6 @@
 // Every calculation from the shell: `rating COMMAND NUMBERS` prints one line of answer.
+ghost use Prim.Native.Nat.{_≤_};
+
 mod answers;
 mod command;
 mod say;
@@ -18,7 +20,7 @@ const CURRENT_NUMBERS: usize = 11;
 fn main() {
     let words = os::arg_count();
     if words < 2 {
-        say::help();
+        guide::help();
         return;
     }
     match command_given() {
@@ -27,15 +29,17 @@ fn main() {
         Command::Current => current_command(words),
         Command::Rise => rise_command(words),
         Command::Explain => explain_command(words),
-        Command::Unknown => {
-            say::line(b"usage: no such command; rating share, factor, current, rise or explain\n")
-        }
+        Command::Help => help_command(words),
+        Command::Version => version_command(words),
+        Command::Unknown => say::complaint(
+            b"usage: no such command; rating share, factor, current, rise, explain, help or version\n",
+        ),
     }
 }
 
 // The command that the first word names. A word longer than every name comes as none, which is no name either.
 fn command_given() -> Command {
-    let mut word = [0u8; 8];
+    let mut word = [0u8; 16];
     let length = os::arg(1, &mut word);
     command::command_of(&word[..length])
 }
@@ -51,7 +55,10 @@ fn share_command(words: usize) {
         return;
     };
     let values = given.values;
-    text::print(answers::share_of(values));
+    report::print(
+        answers::share_of(values),
+        b"rating: the answer cannot be written",
+    );
 }
 
 fn factor_command(words: usize) {
@@ -65,7 +72,10 @@ fn factor_command(words: usize) {
         return;
     };
     let values = given.values;
-    text::print(answers::factor_of(values));
+    report::print(
+        answers::factor_of(values),
+        b"rating: the answer cannot be written",
+    );
 }
 
 fn current_command(words: usize) {
@@ -79,34 +89,79 @@ fn current_command(words: usize) {
         return;
     };
     let values = given.values;
-    text::print(answers::current_of(values));
+    report::print(
+        answers::current_of(values),
+        b"rating: the answer cannot be written",
+    );
 }
 
 fn rise_command(words: usize) {
     if words != 3 {
-        say::line(b"usage: one file wanted: rating rise FILE\n");
+        say::complaint(b"usage: one file wanted: rating rise FILE\n");
         return;
     }
     let mut path = io::buffer();
     let length = os::arg(2, &mut path);
-    let descriptor = os::open_read(&path[..length]);
+    // Of a word that is longer than every path its start is there, and no length.
+    if os::errno() != 0 {
+        say::unread(&path);
+        return;
+    }
+    rise_of(&path[..length]);
+}
+
+fn rise_of(path: &[u8]) {
+    let descriptor = os::open_read(path);
+    if descriptor < 0 {
+        say::unread(path);
+        return;
+    }
     let Outcome::Answer(answer) = report::rise_from(descriptor) else {
-        say::line(b"rating: the file cannot be read\n");
+        say::unread(path);
         return;
     };
     libc::close(descriptor);
-    report::print_rise(answer);
+    report::print_rise(answer, b"rating: the answer cannot be written");
+}
+
+// How many numbers explain takes: a refusal's number and, where a second word follows, its place.
+fn explained(words: usize) -> usize
+    ensures { λ r. ⌜ r ≤ 2 ⌝ }
+{
+    if words == 4 { 2 } else { 1 }
 }
 
 fn explain_command(words: usize) {
-    let given = words::read(words, 1);
+    let wanted = explained(words);
+    let given = words::read(words, wanted);
     let fault = given.fault;
-    match fault {
-        Fault::None => {
-            let values = given.values;
-            say::condition(values[0])
-        }
-        Fault::Count => say::line(b"usage: one number wanted: rating explain NUMBER\n"),
-        Fault::NotWhole(_) => say::line(b"rating: a refusal's number is a whole number\n"),
+    let Fault::None = fault else {
+        say::fault(
+            fault,
+            b"usage: one or two numbers wanted: rating explain NUMBER PLACE\n",
+        );
+        return;
+    };
+    let values = given.values;
+    if wanted == 1 {
+        guide::refusal(values[0]);
+    } else {
+        guide::refusal_at(values[0], values[1]);
     }
+}
+
+fn help_command(words: usize) {
+    if words != 2 {
+        say::complaint(b"usage: no more words wanted: rating help\n");
+        return;
+    }
+    guide::help();
+}
+
+fn version_command(words: usize) {
+    if words != 2 {
+        say::complaint(b"usage: no more words wanted: rating version\n");
+        return;
+    }
+    guide::version();
 }

@@ -1,8 +1,10 @@
 // What a program reads and prints: a sheet from a descriptor, and an answer as one line.
+ghost use Prim.Native.Nat.{_≤_};
 ghost use Rattle.lines.specs.Lines.{Says};
 ghost use Rattle.report.specs.Reading.{Within, FromBytes};
 ghost use Rattle.report.specs.Lines.{riseLine};
 use history::RiseAnswer;
+use libc::STDOUT_FILENO;
 use text::Line;
 
 // How many bytes were read before the input ended or the buffer was full, or that a read failed.
@@ -59,6 +61,22 @@ pub fn rise_line(answer: RiseAnswer) -> Line
     }
 }
 
-pub fn print_rise(answer: RiseAnswer) {
-    text::print(rise_line(answer));
+pub fn print_rise(answer: RiseAnswer, lost: &[u8]) {
+    print(rise_line(answer), lost);
+}
+
+// Writes the line as it is, with no line end of its own.
+pub fn print(line: Line, lost: &[u8])
+    requires { ⌜ line .length ≤ 80 ⌝ }
+{
+    let length = line.length;
+    let bytes = line.bytes;
+    put(&bytes[..length], lost);
+}
+
+// Writes to standard output. Where that fails, standard error is told what was lost, and the reason that the system gives.
+pub fn put(text: &[u8], lost: &[u8]) {
+    if !io::write_all(STDOUT_FILENO, text) {
+        os::fail(lost);
+    }
 }

@@ -18,9 +18,15 @@ fn main() {
 }
 
 fn print(low: i64, high: i64) {
-    report::print_rise(RiseAnswer::Rise(Bounds { low, high }));
+    report::print_rise(
+        RiseAnswer::Rise(Bounds { low, high }),
+        b"report_lines: a line cannot be written",
+    );
 }
 
 fn print_refused(number: u8, place: Place) {
-    report::print_rise(RiseAnswer::Refused(Refusal { number, place }));
+    report::print_rise(
+        RiseAnswer::Refused(Refusal { number, place }),
+        b"report_lines: a line cannot be written",
+    );
 }

@@ -51,11 +51,11 @@ fn report_sheet(k: usize)
     };
     libc::close(descriptor);
     let Signed::Integer(low_min) = word_at(k + 1) else {
-        report::print_rise(answer);
+        report::print_rise(answer, b"rise_files: a line cannot be written");
         return;
     };
     let RiseAnswer::Rise(pair) = answer else {
-        report::print_rise(answer);
+        report::print_rise(answer, b"rise_files: a line cannot be written");
         return;
     };
     print_inside(pair, low_min, k);

@@ -7,7 +7,6 @@ ghost use lib.ListN.{length};
 ghost use Rattle.text.specs.Reading.{zeroDigit, isDigit, spelledBy, numberOf, sameBytes};
 ghost use Rattle.text.specs.Reading.{beyondSigned, withSign, hasMinus, asInteger, signedOf};
 ghost use Rattle.text.specs.Writing.{decimalText, signedText, written, Appended, AppendedNumber};
-use libc::STDOUT_FILENO;
 
 // Above every number of 18 digits.
 const BEYOND_SIGNED: u64 = 1000000000000000000;
@@ -196,13 +195,4 @@ fn size_of(n: i64) -> u64
     ensures { λ r. ⌜ r ≡ natAbs n ⌝ }
 {
     if n < 0 { (-1 - n) as u64 + 1 } else { n as u64 }
-}
-
-// Writes the line to standard output as it is, with no line end of its own.
-pub fn print(line: Line)
-    requires { ⌜ line .length ≤ 80 ⌝ }
-{
-    let length = line.length;
-    let bytes = line.bytes;
-    io::write_all(STDOUT_FILENO, &bytes[..length]);
 }

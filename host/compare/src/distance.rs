@@ -15,10 +15,13 @@ const RISE_ALLOWANCE: f64 = 1e-4;
 /// What its emergency amperes may be off, relative to them.
 const AMPERES_ALLOWANCE: f64 = 1e-9;
 
-/// Most that a share's two ends may be apart.
-const SHARE_WIDTH: i64 = 50;
+/// Most that a share's two ends may be apart. A rise may be so much wider for each change
+/// of rated², and the distance of the current adds as much to the share.
+pub const SHARE_WIDTH: u32 = 50;
+/// Most that a rise's two ends may be apart without a change.
+pub const RISE_ROUNDING: u32 = 2;
 /// What the distance of the factor adds to the heating sum.
-const HEATING_SLACK: f64 = 301.0;
+pub const HEATING_SLACK: u32 = 301;
 /// The cap on the factor.
 pub const MOST_FACTOR: u32 = 5_000;
 /// The cap on the current.
@@ -55,7 +58,10 @@ pub fn share(pair: Bounds, exact: f64) -> Held {
         0 <= low && low <= high && high <= 1_000_000,
         "0 <= low <= high <= 1,000,000",
     )?;
-    require(high - low <= SHARE_WIDTH, "high - low at most 50")?;
+    require(
+        high - low <= i64::from(SHARE_WIDTH),
+        "high - low at most 50",
+    )?;
     encloses(pair, exact, SHARE_ALLOWANCE)
 }
 
@@ -64,8 +70,9 @@ pub fn rise(pair: Bounds, exact: f64, rated: u32, changes: u64) -> Held {
     let rated_squared = i128::from(rated) * i128::from(rated);
     let width = i128::from(pair.high) - i128::from(pair.low);
     require(width >= 0, "low at most high")?;
+    let [rounding, each] = [RISE_ROUNDING, SHARE_WIDTH].map(i128::from);
     require(
-        rated_squared * width <= 2 * rated_squared + 50 * i128::from(changes),
+        rated_squared * width <= rounding * rated_squared + each * i128::from(changes),
         "rated² · (high - low) at most 2 · rated² + 50 · D",
     )?;
     encloses(pair, exact, RISE_ALLOWANCE)
@@ -74,13 +81,14 @@ pub fn rise(pair: Bounds, exact: f64, rated: u32, changes: u64) -> Held {
 /// The factor's distance; `sum` is T.
 pub fn factor(m: u32, sum: f64) -> Held {
     let squared = |m: u32| f64::from(m) * f64::from(m);
+    let slack = f64::from(HEATING_SLACK);
     require(m <= MOST_FACTOR, "at most 5,000")?;
     require(
         squared(m) * (sum - SHARE_ALLOWANCE) <= 1e12,
         "m² · T at most 10^12",
     )?;
     require(
-        m == MOST_FACTOR || squared(m + 1) * (sum + HEATING_SLACK + SHARE_ALLOWANCE) >= 1e12 + 1.0,
+        m == MOST_FACTOR || squared(m + 1) * (sum + slack + SHARE_ALLOWANCE) >= 1e12 + 1.0,
         "(m + 1)² · (T + 301) at least 10^12 + 1",
     )
 }
@@ -92,7 +100,7 @@ pub fn current(i: u32, asked: &Emergency, exact: second::Current) -> Held {
     const SCALE: f64 = 1e9;
     let share = exact.share_millionths;
     let least = ((share - SHARE_ALLOWANCE).max(0.0) * SCALE).floor() as i128;
-    let most = ((share + SHARE_WIDTH as f64 + SHARE_ALLOWANCE) * SCALE).ceil() as i128;
+    let most = ((share + f64::from(SHARE_WIDTH) + SHARE_ALLOWANCE) * SCALE).ceil() as i128;
     let scale = SCALE as i128;
     require(i <= MOST_AMPERES, "at most 10,000")?;
     require(

@@ -66,7 +66,7 @@ pub fn rise(sheet: &[u8], said: Result<Bounds, Refusal>) -> Held {
         let history = History::of(sheet);
         let changes = history.changes();
         require(changes == exact.changes, "one D, however it is summed")?;
-        let rated = history.cable.rated_current;
+        let rated = history.cable.rated;
         distance::rise(pair, exact.exact_millionths, rated, changes)?;
         rules::rise(&history, pair)
     })
@@ -84,7 +84,7 @@ pub fn factor(cable: &Cable, hours: &[u16; 24], said: Result<u32, Refusal>) -> H
 pub fn current(cable: &Cable, h: u32, r: u32, minutes: u32, said: Result<u32, Refusal>) -> Held {
     let second = second::current(&theirs(cable), h, r, minutes);
     agree(said, second, |i, exact| {
-        let rated = cable.rated_current;
+        let rated = cable.rated;
         let asked = Emergency { h, r, rated };
         distance::current(i, &asked, exact)?;
         rules::current(cable, &asked, minutes, i)

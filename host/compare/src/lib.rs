@@ -1,6 +1,6 @@
 //! Holds the proved library against the second program, over inputs of every kind, and
 //! the built program `rise` against both and against the table of 1972, and the built
-//! programs against the commands that documents show.
+//! programs and the library against the commands and tables that documents show.
 
 mod check;
 mod distance;
@@ -9,6 +9,7 @@ mod history;
 mod input;
 pub mod judge;
 mod numbers;
+pub mod pages;
 pub mod program;
 mod random;
 mod rules;

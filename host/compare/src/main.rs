@@ -1,6 +1,6 @@
 //! The differential test's command line.
 
-use compare::{check, program, shown, table, Input, Run, Tally};
+use compare::{check, pages, program, shown, table, Input, Run, Tally};
 use std::ops::Range;
 use std::path::Path;
 use std::process::ExitCode;
@@ -11,7 +11,8 @@ usage: compare [COUNT [SEED]]               library against second program
        compare long                         the same, 10,000,000 inputs, seed from the clock
        compare rise PROGRAM [COUNT [SEED]]  the same with sheets, through the program rise too
        compare table PROGRAM                the table of 1972 through the program rise
-       compare shown ROOT PROGRAMS FILE..   the commands that files of ROOT show, run with PROGRAMS";
+       compare shown ROOT PROGRAMS FILE..   the commands that files of ROOT show, run with PROGRAMS
+       compare pages ROOT PROGRAMS          the tables of ROOT's pages, against library and PROGRAMS";
 
 /// What the gate runs, so that it is repeatable.
 const GATE_COUNT: u64 = 1_000_000;
@@ -91,6 +92,7 @@ fn command(words: &[&str]) -> Option<bool> {
         ["shown", root, programs, files @ ..] => {
             Some(shown::run(Path::new(root), Path::new(programs), files))
         }
+        ["pages", root, programs] => Some(pages::run(Path::new(root), Path::new(programs))),
         ["table", path] => Some(table::run(Path::new(path))),
         ["rise", path, rest @ ..] => {
             let (count, seed) = numbers(rest, GATE_SHEETS)?;

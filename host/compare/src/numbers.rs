@@ -20,8 +20,8 @@ pub const USUAL: [u32; 8] = [500, 1_000, 500, 600_000, 500_000, 1_000, 100, 400]
 
 /// Places of the soil's diffusivity, the fast and the slow rate among the fields.
 const DIFFUSIVITY: usize = 2;
-const FAST: usize = 5;
-const SLOW: usize = 6;
+const FAST_RATE: usize = 5;
+const SLOW_RATE: usize = 6;
 
 /// A number of a range: an end, one spread by size, or any.
 pub fn inside(random: &mut Random, (lowest, highest): (u32, u32)) -> u32 {
@@ -62,8 +62,8 @@ pub fn accepted_cable(random: &mut Random) -> Cable {
     if random.once_in(6) {
         fields[DIFFUSIVITY] = 0;
     }
-    if fields[SLOW] > fields[FAST] {
-        fields.swap(FAST, SLOW);
+    if fields[SLOW_RATE] > fields[FAST_RATE] {
+        fields.swap(FAST_RATE, SLOW_RATE);
     }
     Cable::from(fields)
 }
@@ -72,7 +72,7 @@ pub fn accepted_cable(random: &mut Random) -> Cable {
 pub fn damaged_cable(random: &mut Random) -> Cable {
     let mut fields = *accepted_cable(random).fields();
     if random.once_in(3) {
-        fields.swap(FAST, SLOW);
+        fields.swap(FAST_RATE, SLOW_RATE);
     } else {
         for _ in 0..random.from_to(1, 3) {
             let field = random.below(8);

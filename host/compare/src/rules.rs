@@ -19,7 +19,7 @@ fn divided_up(number: i128, divisor: i128) -> i128 {
 
 /// The rise of an accepted sheet is that of the rules.
 pub fn rise(history: &History, said: Bounds) -> Held {
-    let rated = i128::from(history.cable.rated_current);
+    let rated = i128::from(history.cable.rated);
     let start = i128::from(history.start_squared) * 1_000_000;
     let (mut low, mut high) = (start, start);
     for &(minutes, change) in &history.steps {

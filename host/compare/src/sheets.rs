@@ -12,14 +12,14 @@ const MOST_RECORDS: usize = 48;
 struct Draft {
     cable: Cable,
     start: u16,
-    first: u16,
+    first_link: u16,
     records: Vec<[u16; 3]>,
     chain: Vec<u16>,
 }
 
 impl Draft {
     fn bytes(&self) -> Vec<u8> {
-        sheet(&self.cable, self.start, self.first, &self.records)
+        sheet(&self.cable, self.start, self.first_link, &self.records)
     }
 
     /// The record of that number.
@@ -31,7 +31,7 @@ impl Draft {
     /// place of the link that ends it.
     fn link_to(&mut self, step: usize) -> &mut u16 {
         match step.checked_sub(1) {
-            None => &mut self.first,
+            None => &mut self.first_link,
             Some(before) => &mut self.records[usize::from(self.chain[before]) - 1][2],
         }
     }
@@ -76,7 +76,7 @@ fn accepted(random: &mut Random) -> Draft {
     let mut draft = Draft {
         cable: accepted_cable(random),
         start: inside(random, (0, 4_000)) as u16,
-        first: 0,
+        first_link: 0,
         records: (0..records)
             .map(|_| [random.short(), random.short(), random.short()])
             .collect(),
@@ -102,7 +102,7 @@ fn brief(random: &mut Random) -> Vec<u8> {
     let mut draft = accepted(random);
     draft.cable.diameter = 1_500;
     draft.cable.diffusivity = 100;
-    draft.cable.surface = 1_000_000;
+    draft.cable.surface_ratio = 1_000_000;
     draft.start = 0;
     for (number, minutes) in draft.chain.clone().into_iter().rev().zip(1..) {
         draft.record(number)[0] = minutes;
@@ -139,7 +139,7 @@ fn at_an_edge(random: &mut Random) -> Vec<u8> {
 fn looping(random: &mut Random) -> Vec<u8> {
     let mut draft = accepted(random);
     if draft.chain.is_empty() {
-        draft.first = 1;
+        draft.first_link = 1;
         draft.records.insert(0, [30, 300, 1]);
     } else {
         let back = random.one_of(&draft.chain);

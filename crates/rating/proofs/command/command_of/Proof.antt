@@ -4,7 +4,7 @@ use mathlib.Core.Bool.{false}
 use borrow.Author.Needs.{needs}
 use Rattle.text.specs.Reading.{sameBytes}
 use Rattle.report.specs.Lines.{riseWord}
-use Rattle.rating.specs.Names.{shareWord, factorWord, currentWord, explainWord, commandOf}
+use Rattle.rating.specs.Names.{shareWord, factorWord, currentWord, explainWord, asksHelp, asksVersion, commandOf}
 use Rattle.rating.proofs.command.command_of.Statement.{statement}
 use Rattle.rating.proofs.command.command_of.Tie as tie
 
@@ -22,6 +22,12 @@ not-rise c = sym (c .before .same4 .ensures) ∙ c .if4 .left
 
 not-explain : (c : tie.Else5) → sameBytes (c .before .before .before .before .before .before .before .before .before .before .before .before .before .before .before .before .args .word .now) explainWord ≡ false
 not-explain c = sym (c .before .same5 .ensures) ∙ c .if5 .left
+
+not-help : (c : tie.Else6) → asksHelp (c .before .before .before .before .before .before .before .before .before .before .before .before .before .before .before .before .before .before .args .word .now) ≡ false
+not-help c = sym (c .before .asks-help .ensures) ∙ c .if6 .left
+
+not-version : (c : tie.Else7) → asksVersion (c .before .before .before .before .before .before .before .before .before .before .before .before .before .before .before .before .before .before .before .before .args .word .now) ≡ false
+not-version c = sym (c .before .asks-version .ensures) ∙ c .if7 .left
 
 slice-aggregate-same : tie.Need-slice-aggregate-same
 slice-aggregate-same c = search needs
@@ -73,9 +79,23 @@ returns-5 : tie.Need-returns-5
 unfolding commandOf
 returns-5 c = rw (not-share (c .before .before .before .before .before .before .before .before .before .before .before .before), not-factor (c .before .before .before .before .before .before .before .before .before), not-current (c .before .before .before .before .before .before), not-rise (c .before .before .before), sym (c .before .same5 .ensures) ∙ c .if5 .taken) refl
 
+asks-help-requires : tie.Need-asks-help-requires
+asks-help-requires c κs = search needs
+
 returns-6 : tie.Need-returns-6
 unfolding commandOf
-returns-6 c = rw (not-share (c .before .before .before .before .before .before .before .before .before .before .before .before), not-factor (c .before .before .before .before .before .before .before .before .before), not-current (c .before .before .before .before .before .before), not-rise (c .before .before .before), not-explain c) refl
+returns-6 c = rw (not-share (c .before .before .before .before .before .before .before .before .before .before .before .before .before .before), not-factor (c .before .before .before .before .before .before .before .before .before .before .before), not-current (c .before .before .before .before .before .before .before .before), not-rise (c .before .before .before .before .before), not-explain (c .before .before), sym (c .before .asks-help .ensures) ∙ c .if6 .taken) refl
+
+asks-version-requires : tie.Need-asks-version-requires
+asks-version-requires c κs = search needs
+
+returns-7 : tie.Need-returns-7
+unfolding commandOf
+returns-7 c = rw (not-share (c .before .before .before .before .before .before .before .before .before .before .before .before .before .before .before .before), not-factor (c .before .before .before .before .before .before .before .before .before .before .before .before .before), not-current (c .before .before .before .before .before .before .before .before .before .before), not-rise (c .before .before .before .before .before .before .before), not-explain (c .before .before .before .before), not-help (c .before .before), sym (c .before .asks-version .ensures) ∙ c .if7 .taken) refl
+
+returns-8 : tie.Need-returns-8
+unfolding commandOf
+returns-8 c = rw (not-share (c .before .before .before .before .before .before .before .before .before .before .before .before .before .before .before .before), not-factor (c .before .before .before .before .before .before .before .before .before .before .before .before .before), not-current (c .before .before .before .before .before .before .before .before .before .before), not-rise (c .before .before .before .before .before .before .before), not-explain (c .before .before .before .before), not-help (c .before .before), not-version c) refl
 
 pub command-of-spec : {M : Type 1} → statement M
 command-of-spec =
@@ -96,4 +116,8 @@ command-of-spec =
     slice-aggregate-same-5
     same-requires-5
     returns-5
-    returns-6)
+    asks-help-requires
+    returns-6
+    asks-version-requires
+    returns-7
+    returns-8)

@@ -1,0 +1,132 @@
+//! Programs that explain a refusal otherwise, and programs of a folder.
+
+use super::stub::{explain, Fault, Stub};
+use super::{failed, page, root, INPUTS};
+use compare::pages::{run, Built, Programs, Said};
+use std::path::{Path, PathBuf};
+
+/// Each is wrong in a little: more or less is printed, another number or word, a
+/// complaint that is missing, or one that should not be.
+const FAULTS: [Fault; 10] = [
+    (&[13], "h² above 100·r\nmore\n", ""),
+    (&[13], "all hours 0\n", ""),
+    (&[11, 0], "all hours 0\n", ""),
+    (
+        &[11, 0],
+        "all hours 0\nno place is named\n",
+        "rating: more\n",
+    ),
+    (&[5, 0], "link above n\nrecord 0: its next link\n", ""),
+    (&[5, 48], "link above n\nrecord 47: its next link\n", ""),
+    (
+        &[10, 7],
+        "hour above 4,000 A, first such\nhour 7: its amperes\n",
+        "",
+    ),
+    (&[2, 9], "field outside its range, first such\n", ""),
+    (&[2, 0], "", "rating: there is no field 0\n"),
+    (
+        &[1, 1],
+        "length is not 36 + 6n, n 0 to 48\nno place is named\n",
+        "",
+    ),
+];
+
+#[test]
+fn a_refusal_explained_otherwise() {
+    for fault in FAULTS {
+        let typed: Vec<String> = fault.0.iter().map(u8::to_string).collect();
+        let command = format!("`rating explain {}`", typed.join(" "));
+        let failed = failed(INPUTS, &page(INPUTS), &Stub(Some(fault)));
+        assert!(!failed.is_empty(), "{fault:?}");
+        for told in failed {
+            assert!(told.contains(&command), "{fault:?}: {told}");
+        }
+    }
+}
+
+/// Programs that know no place.
+struct NumbersOnly;
+
+impl Programs for NumbersOnly {
+    fn explain(&self, words: &[u8]) -> Result<Said, String> {
+        match words {
+            [_] => Ok(explain(words)),
+            _ => Ok(Said {
+                printed: String::new(),
+                complaint: "usage: one number wanted\n".to_string(),
+            }),
+        }
+    }
+
+    fn rise(&self, sheet: &[u8]) -> Result<String, String> {
+        Stub(None).rise(sheet)
+    }
+}
+
+#[test]
+fn no_place_explained() {
+    // Every row with a place fails, and for nothing else.
+    let failed = failed(INPUTS, &page(INPUTS), &NumbersOnly);
+    assert_eq!(failed.len(), 8 + 4 + 5 + 13, "{failed:?}");
+    for told in failed {
+        assert!(told.contains("should be: `rating explain "), "{told}");
+    }
+}
+
+/// A folder with the programs as shell scripts, for a test of that name.
+fn folder(test: &str, rating: &str, rise: &str) -> PathBuf {
+    let folder = Path::new(env!("CARGO_TARGET_TMPDIR")).join(test);
+    std::fs::create_dir_all(&folder).expect("a folder");
+    for (name, script) in [("rating", rating), ("rise", rise)] {
+        let path = folder.join(name);
+        std::fs::write(&path, script).expect("a script");
+        let mode = std::os::unix::fs::PermissionsExt::from_mode(0o755);
+        std::fs::set_permissions(&path, mode).expect("a program");
+    }
+    folder
+}
+
+/// A script that explains every number and place, up to 50.
+fn rating() -> String {
+    let mut script = "#!/bin/sh\ncase \"$*\" in\n".to_string();
+    let mut add = |words: &[u8]| {
+        let Said { printed, complaint } = explain(words);
+        let typed: Vec<String> = words.iter().map(u8::to_string).collect();
+        let typed = typed.join(" ");
+        let line = format!("'explain {typed}') cat <<'END'\n{printed}END\n");
+        let told = format!("printf '%s' '{complaint}' >&2 ;;\n");
+        script += &(line + &told);
+    };
+    for number in 1..=13 {
+        add(&[number]);
+        (0..=50).for_each(|place| add(&[number, place]));
+    }
+    script + "esac\n"
+}
+
+/// A script that knows the sheets by their lengths.
+const RISE: &str = "#!/bin/sh
+case $(wc -c) in
+*36) echo rise 562500 562500 ;;
+*42) echo refused 8 1 ;;
+*66) echo rise 610948 610956 ;;
+esac
+";
+
+#[test]
+fn programs_of_a_folder() {
+    let right = folder("right", &rating(), RISE);
+    assert_eq!(Built(&right).explain(&[2, 9]), Ok(explain(&[2, 9])));
+    assert_eq!(
+        Built(&right).rise(&[0; 42]),
+        Ok("refused 8 1\n".to_string())
+    );
+    assert!(run(&root(), &right));
+    let other = rating().replace("hour 7: its", "hour 8: its");
+    assert!(!run(&root(), &folder("hour", &other, RISE)));
+    let other = RISE.replace("refused 8 1", "refused 8 2");
+    assert!(!run(&root(), &folder("rise", &rating(), &other)));
+    assert!(!run(&root(), &right.join("nowhere")));
+    assert!(!run(&right, &right));
+}
