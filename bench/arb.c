@@ -1,5 +1,5 @@
 /* Times Arb on the cases. A line for each: name, microseconds, value, radius, and how (the way to E1 and the bits at the start). The value is the exact
-   one in millionths (share and rise; the heating sum T of a factor; the share G of a current), with a radius below one half.
+   one in millionths (share and rise; the largest heating sum T of a factor; the share G of a current), with a radius below one half.
    `plain`: document 01's formula as it stands, from 64 bits on, by the quickest of Arb's functions for E1. `fitted`: with what favours Arb on these cases,
    the quickest of all ways to E1 and of several starting precisions, and no integral worked out that is too small to matter. */
 #if __has_include(<flint/arb.h>)
@@ -23,7 +23,8 @@
 
 typedef void Integral(arb_t e1, const arb_t z, slong bits);
 
-static arb_t zero, one, negated, p, q, steady, fast, slow, share, value, amperes;
+static arb_t zero, one, negated, p, q, steady, fast, slow, share, sum, value, amperes;
+static arb_t hourly[6];
 static acb_t at, ei;
 
 static void by_expint(arb_t e1, const arb_t z, slong bits) { arb_hypgeom_expint(e1, one, z, bits); }
@@ -135,21 +136,35 @@ static void value_of_rise(const Case *c, slong bits)
 
 static slong earlier(const Case *c, int hour, int hours) { return square(c->hours[(hour + 24 - hours) % 24]); }
 
-/* Gathered, and times 24·highest, so that what multiplies each share is whole. */
+/* The heating sum with that hour as the reference, from the shares after 1 to 6 hours: gathered, and times 24·highest, so that what multiplies each share
+   is whole. */
+static void set_sum(const Case *c, int hour, slong all, slong bits)
+{
+    arb_set_si(sum, all * 1000000);
+    for (int i = 1; i <= 6; i++)
+        arb_addmul_si(sum, hourly[i - 1], 24 * earlier(c, hour, i - 1) - (i < 6 ? 24 * earlier(c, hour, i) : all), bits);
+}
+
+/* Document 02, note 1: 'The factor rule now speaks of the largest exact sum'. The largest of the 24 balls holds it, whichever hour has it. */
 static void value_of_factor(const Case *c, slong bits)
 {
-    int hour = 0;
-    slong all = 0;
+    slong all = 0, highest = 0;
     for (int i = 0; i < 24; i++) {
-        hour = c->hours[i] >= c->hours[hour] ? i : hour;
-        all += square(c->hours[i]);
+        slong here = square(c->hours[i]);
+        highest = here > highest ? here : highest;
+        all += here;
     }
-    arb_set_si(value, all * 1000000);
-    for (int i = 1; i <= 6; i++) {
-        set_share(c, 60 * (ulong)i, bits);
-        arb_addmul_si(value, share, 24 * earlier(c, hour, i - 1) - (i < 6 ? 24 * earlier(c, hour, i) : all), bits);
+    for (int i = 0; i < 6; i++) {
+        set_share(c, 60 * (ulong)(i + 1), bits);
+        arb_swap(hourly[i], share);
     }
-    arb_div_ui(value, value, 24 * (ulong)earlier(c, hour, 0), bits);
+    set_sum(c, 0, all, bits);
+    arb_swap(value, sum);
+    for (int hour = 1; hour < 24; hour++) {
+        set_sum(c, hour, all, bits);
+        arb_max(value, value, sum, bits);
+    }
+    arb_div_ui(value, value, 24 * (ulong)highest, bits);
 }
 
 /* The share G, and with it the amperes that keep the limit exactly. */
@@ -209,9 +224,11 @@ static const char *choose_quickest(const Case *c, int print)
 
 static void init(void)
 {
-    arb_ptr all[] = { zero, one, negated, p, q, steady, fast, slow, share, value, amperes };
+    arb_ptr all[] = { zero, one, negated, p, q, steady, fast, slow, share, sum, value, amperes };
     for (size_t i = 0; i < sizeof all / sizeof *all; i++)
         arb_init(all[i]);
+    for (size_t i = 0; i < sizeof hourly / sizeof *hourly; i++)
+        arb_init(hourly[i]);
     arb_one(one);
     acb_init(at);
     acb_init(ei);

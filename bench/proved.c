@@ -1,4 +1,4 @@
-/* Times the proved library. A line for each case: name, microseconds, low, high, answer. The exact value (share and rise; the heating sum T of a
+/* Times the proved library. A line for each case: name, microseconds, low, high, answer. The exact value (share and rise; the largest heating sum T of a
    factor; the share G of a current; all in millionths) lies between low and high: that is what the answer promises of it. */
 #include "bench.h"
 #include "../include/kechmowad.h"
@@ -19,7 +19,7 @@ static Work *work_of(const Case *c)
     return asks(c, "factor") ? ask_factor : ask_current;
 }
 
-/* m²·T is at most 10^12, and below the cap (m + 1)²·(T + 301) is at least 10^12 + 1. */
+/* m²·T is at most 10^12, and below the cap (m + 1)²·(T + 301) is at least 10^12 + 1, T the largest of the 24 exact sums. */
 static void print_factor(double m)
 {
     double low = m < 5000 ? (1e12 + 1) / ((m + 1) * (m + 1)) - 301 : 0;

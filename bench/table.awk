@@ -57,7 +57,7 @@ function goals() {
 END {
     print "Microseconds a call, and how many times as long as the proved program the others take:"
     times()
-    print "\nWhat they answer, in millionths (of a factor its heating sum T, of a current its share G):"
+    print "\nWhat they answer, in millionths (of a factor its largest heating sum T, of a current its share G):"
     answers()
     print ""
     goals()

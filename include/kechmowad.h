@@ -2,8 +2,8 @@
  * Kechmowad: cyclic and emergency ratings of a buried cable.
  *
  * Four calls, all proved, in the static library libkechmowad.a. "The paper" is
- * document 01, the scope paper: its table 'The cable' gives the ranges, its table
- * 'When the desk is told no' the refusals.
+ * document 01, the scope paper, with note 1 of document 02: its table 'The cable' gives
+ * the ranges, its table 'When the desk is told no' the refusals.
  *
  * A call takes whatever it is handed: it writes a result or a refusal into `answer`,
  * always comes back, and only reads what it was handed. It keeps no state, so that
@@ -140,8 +140,9 @@ void kechmowad_rise(const uint8_t *sheet, size_t length, int64_t answer[5]);
 
 /*
  * The cyclic rating factor of a day of hourly amperes (0 to 4,000 each, hours 0 to
- * 23), in thousandths, at most 5,000 and never above the exact factor.
- * Refusals 2, 3, 10, 11.
+ * 23), in thousandths, at most 5,000 and never above the exact factor. It is that of the
+ * hour at which the conductor is hottest, which need not be that of the highest load: it
+ * may be the end of a long plateau. Refusals 2, 3, 10, 11.
  */
 void kechmowad_factor(const uint32_t cable[8], const uint16_t hours[24], int64_t answer[5]);
 

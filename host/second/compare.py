@@ -4,7 +4,8 @@
     python3 compare.py COUNT SEED
 
 asks COUNT shares and a quarter as many factors, currents and rises, and prints
-the largest difference of each kind."""
+the largest difference of each kind, and of how many days the hottest hour is not that
+of the highest load."""
 import os
 import random
 import subprocess
@@ -19,6 +20,9 @@ PROGRAM = os.path.join(
     os.path.dirname(os.path.abspath(__file__)), "..", "target", "release", "examples", "answers"
 )
 MILLION = 10**6
+
+# Heating sums so near each other, in millionths, may change places in the crate.
+EQUAL = mpf(10) ** -8
 
 
 def pick(low, high):
@@ -59,21 +63,60 @@ def share(cable, minutes):
     return (1 - k + k * beta) * alpha * MILLION
 
 
+def only(*expected):
+    """Whether the whole numbers of an answer are these."""
+    return lambda wholes: wholes == list(expected)
+
+
 def share_question():
     cable, minutes = any_cable(), pick(1, 2880)
-    return ["share"] + cable + [minutes], [share(cable, minutes)], []
+    return ["share"] + cable + [minutes], [share(cable, minutes)], only()
+
+
+def any_day():
+    """Loads of any kind, or a plateau and a short, slightly higher peak elsewhere."""
+    if random.random() < 0.5:
+        return [pick(0, 4000) for _ in range(24)]
+    peak, long, short = pick(8, 4000), random.randint(3, 12), random.randint(1, 2)
+    plateau = random.randint(peak - peak // 8, peak - 1)
+    start = random.randrange(24)
+    later = start + long + random.randint(1, 23 - long - short)
+    hours = [random.randint(0, plateau // 2) for _ in range(24)]
+    for i in range(long):
+        hours[(start + i) % 24] = plateau
+    for i in range(short):
+        hours[(later + i) % 24] = peak
+    return hours
+
+
+def heating_sum(squares, g, reference):
+    """As document 01 writes it, for one reference hour; the squares are over the highest."""
+    y = [squares[(reference - i) % 24] for i in range(6)]
+    near = sum(y[i] * (g[i + 1] - g[i]) for i in range(6))
+    return near + sum(squares) / 24 * (MILLION - g[6])
+
+
+# Of each day, whether it is hottest at another hour than those of the highest load.
+elsewhere = []
 
 
 def factor_question():
-    cable, hours = any_cable(), [pick(0, 4000) for _ in range(24)]
+    """T is the largest of the 24 sums, and the hour told has it or one as good as equal."""
+    cable, hours = any_cable(), any_day()
     if max(hours) == 0:
         hours[3] = 5
     highest = max(hours)
-    reference = max(i for i in range(24) if hours[i] == highest)
-    y = [mpf(hours[(reference - i) % 24]) ** 2 / highest**2 for i in range(24)]
+    squares = [mpf(hour) ** 2 / highest**2 for hour in hours]
     g = [mpf(0)] + [share(cable, 60 * j) for j in range(1, 7)]
-    total = sum(y[i] * (g[i + 1] - g[i]) for i in range(6)) + sum(y) / 24 * (MILLION - g[6])
-    return ["factor"] + cable + hours, [total], [reference]
+    sums = [heating_sum(squares, g, reference) for reference in range(24)]
+    largest = max(sums)
+    at_highest = max(sums[i] for i in range(24) if hours[i] == highest)
+    elsewhere.append(largest - at_highest > EQUAL)
+
+    def right(wholes):
+        return len(wholes) == 1 and largest - sums[wholes[0]] <= EQUAL
+
+    return ["factor"] + cable + hours, [largest], right
 
 
 def current_question():
@@ -86,7 +129,7 @@ def current_question():
     g = share(cable, minutes)
     preload = mpf(h) ** 2 / 10**4
     amperes = cable[7] * sqrt(preload + (mpf(r) / 100 - preload) / (g / MILLION))
-    return ["current"] + cable + [h, r, minutes], [amperes, g], []
+    return ["current"] + cable + [h, r, minutes], [amperes, g], only()
 
 
 def rise_question():
@@ -106,7 +149,7 @@ def rise_question():
         before = amperes
     first = chain[0] if chain else 0
     asked = ["rise"] + cable + [start, first] + [x for record in records for x in record]
-    return asked, [total / mpf(cable[7]) ** 2], [changes, cable[7], len(chain)]
+    return asked, [total / mpf(cable[7]) ** 2], only(changes, cable[7], len(chain))
 
 
 questions = [share_question() for _ in range(COUNT)]
@@ -118,9 +161,9 @@ answers = subprocess.run(
 ).stdout.splitlines()
 assert len(answers) == len(questions)
 apart, relative = {}, {}
-for (asked, reals, wholes), answer in zip(questions, answers):
+for (asked, reals, right), answer in zip(questions, answers):
     words = answer.split()
-    assert [int(x) for x in words[len(reals):]] == wholes, (asked, answer)
+    assert right([int(x) for x in words[len(reals):]]), (asked, answer)
     kind = asked[0]
     for word, real in zip(words, reals):
         off = abs(mpf(word) - real)
@@ -129,3 +172,4 @@ for (asked, reals, wholes), answer in zip(questions, answers):
             relative[kind] = max(relative.get(kind, 0), off / abs(real))
 for kind in apart:
     print(f"{kind}: {float(apart[kind]):.1e} absolute, {float(relative[kind]):.1e} relative")
+print(f"{sum(elsewhere)} of {len(elsewhere)} days are hottest at another hour than their highest")

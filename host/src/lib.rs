@@ -1,6 +1,7 @@
 //! Cyclic and emergency ratings of a buried cable: safe calls of the proved library
-//! Kechmowad. "The paper" is document 01, the scope paper, which decides what each call
-//! answers; every call takes whatever it is handed and gives a result or a refusal.
+//! Kechmowad. "The paper" is document 01, the scope paper, with note 1 of document 02; it
+//! decides what each call answers. Every call takes whatever it is handed and gives a
+//! result or a refusal.
 //!
 //! ```
 //! use kechmowad::{current, share, Cable, Condition, Place, Refusal};
@@ -137,7 +138,9 @@ pub fn rise(sheet: &[u8]) -> Result<Bounds, Refusal> {
 }
 
 /// The cyclic rating factor of a day of hourly amperes, 0 to 4,000 each, in
-/// thousandths: at most 5,000 and never above the exact factor. Refusals 2, 3, 10, 11.
+/// thousandths: at most 5,000 and never above the exact factor. It is that of the hour at
+/// which the conductor is hottest, which need not be that of the highest load: it may be
+/// the end of a long plateau. Refusals 2, 3, 10, 11.
 pub fn factor(cable: &Cable, hours: &[u16; 24]) -> Result<u32, Refusal> {
     let fields = cable.fields().as_ptr();
     // SAFETY: eight fields and 24 hours to read, five places to write.

@@ -1,4 +1,5 @@
 //! Document 01's cases C1 to C12 through the static library; what is expected stands there.
+//! And days of document 02's note 1, 'The hottest hour'.
 
 use kechmowad::{current, factor, rise, share, sheet, Bounds, Cable, Place, Refusal};
 
@@ -59,6 +60,28 @@ fn c3_and_c4_factors() {
         hours[hour] = 400;
         assert_eq!(factor(&B, &hours), Ok(999));
     }
+}
+
+#[test]
+fn days_hottest_after_a_plateau() {
+    // Document 02, note 1: 'the reference hour becomes the one with the largest rounded-up
+    // heating sum of all 24'. Worked out to 60 digits with mpmath; every pair of shares that
+    // document 01 allows gives these factors. By the hour of the highest load they would be
+    // 1,307 and 1,292.
+    let mut evening = [200; 24];
+    evening[7] = 400;
+    evening[17..=22].fill(390);
+    assert_eq!(factor(&A, &evening), Ok(1_147));
+    let mut midnight = [0; 24];
+    for hour in [21, 22, 23, 0, 1, 2] {
+        midnight[hour] = 400;
+    }
+    assert_eq!(factor(&A, &midnight), Ok(1_186));
+    // Row F07 of data/reference.tsv, where the highest load's hour has 1,428.
+    let mut f07 = [50; 24];
+    f07[8] = 310;
+    f07[14..=21].fill(300);
+    assert_eq!(factor(&A, &f07), Ok(1_180));
 }
 
 #[test]

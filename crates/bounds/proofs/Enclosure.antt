@@ -43,6 +43,9 @@ pair-low p i = omega (arith, in-low i)
 pub pair-high : (p : Pair) {x m : ℕ} → In (asBounds p) (pos x) m → x ≤ p .high * m
 pair-high p i = omega (arith, in-high i)
 
+pub over-one : (b : Bounds) (x : ℤ) → b .low ≤ℤ x → x ≤ℤ b .high → In b x 1
+over-one b x l h = inside b x 1 (omega (arith, le-lin l)) (omega (arith, le-lin h))
+
 -- ---- point, sum, negation
 
 pub point : {z : ℤ} {r : Bounds} → r ≡ pointB z → Point z r

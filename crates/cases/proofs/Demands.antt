@@ -14,7 +14,7 @@ use Rattle.history.specs.declared.RiseAnswer.the-variants as R
 use Rattle.history.proofs.Said.{rise-steps, exact-rise-bounds}
 use Rattle.cycle.specs.Answer.{FactorSaid}
 use Rattle.cycle.specs.declared.FactorAnswer.the-variants as F
-use Rattle.cycle.proofs.Said.{exact-heating-bounds}
+use Rattle.cycle.proofs.Said.{exact-heating-bounds, factor-below-cap}
 use Rattle.emergency.specs.Answer.{CurrentSaid}
 use Rattle.emergency.specs.declared.CurrentAnswer.the-variants as C
 use Rattle.emergency.proofs.Said.{current-share-bounds}
@@ -50,7 +50,13 @@ rise-demand s b said =
 pub factor-demand : (cable : Cable) (hours : List ℕ) (m : ℕ) → length hours ≡ 24 → FactorSaid cable hours (F.Factor m) → FactorDemand cable hours m
 factor-demand cable hours m l said =
     let p = said .distance m refl in
-    record { not-above = p .not-above; larger-above = p .larger-above; bounded = record { bounds = exact-heating-bounds cable hours l (sym (said .answer)) } }
+    let given = sym (said .answer) in
+    record {
+      not-above = p .not-above;
+      larger-above = p .larger-above;
+      bounded = record { bounds = exact-heating-bounds cable hours l given };
+      below-cap = factor-below-cap cable hours l given;
+    }
 
 pub current-demand : (cable : Cable) (h r minutes i : ℕ) → CurrentSaid cable h r minutes (C.Current i) → CurrentDemand cable h r minutes i
 current-demand cable h r minutes i said =

@@ -1,14 +1,14 @@
 -- Demand 3 in document 01's own numbers: the widths, the caps, the limits, the certifying rule and the default stand here once more, written out, from 'The
--- attained share', 'The emergency current' and 'What the distances say'. `proofs/Demands` takes every line from the contract of its call, so a contract that
--- says less is refused there. A call that is added gets its sentences here, and a number that changes is changed here too.
+-- attained share', 'The emergency current' and 'What the distances say'; and the 24 hours of document 02, note 1. `proofs/Demands` takes every quoted line from the
+-- contract of its call, so a contract that says less is refused there. A call that is added gets its sentences here, and a number that changes is changed here too.
 use mathlib.Core.Path.{_≡_, refl}
 use mathlib.Core.List.{List, [], _∷_}
-use Prim.Native.Nat.{ℕ, _+_, _*_, _<_}
+use Prim.Native.Nat.{ℕ, _+_, _*_, _≤_, _<_}
 use lib.Dec.{T}
 use lib.IntN.{ℤ, pos, sucℤ, _+ℤ_, _-ℤ_, _*ℤ_}
 use lib.Signed.{_≤ℤ_}
 use Rattle.numbers.specs.Signed.{ofInt}
-use Rattle.exact.specs.Value.{Value, AtMost, AtLeast, fromOne, inMillionths, integer, _+ᵥ_, _·ᵥ_}
+use Rattle.exact.specs.Value.{Value, AtMost, AtLeast, fromOne, inMillionths, integer, _+ᵥ_, _·ᵥ_, largestᵥ}
 use Rattle.exact.specs.Share.{share}
 use Rattle.cable.specs.Checks.{inUse}
 use Rattle.cable.specs.InRange.{numbersOf}
@@ -18,7 +18,6 @@ use Rattle.sheet.specs.Header.{cableOf, startingCurrent}
 use Rattle.sheet.specs.Chain.{Step, steps, chainOf}
 use Rattle.history.specs.Exact.{exactRise, changes}
 use Rattle.history.specs.Answer.{stepsOf}
-use Rattle.cycle.specs.Day.{referenceHour}
 use Rattle.cycle.specs.Exact.{exactHeating}
 
 -- Every order from 1 gives bounds of an exact value: what is said of all orders is not empty.
@@ -79,15 +78,18 @@ pub record RiseDemand (s : List ℕ) (low high : ℤ) : Type 0 where
 
 -- ---- the factor of a cable and its hours
 
--- "let T be the exact heating sum in millionths"
+-- "let T be the exact heating sum in millionths". Document 02, note 1: "The factor rule now speaks of the largest exact sum, at the same distance."
+-- The largest of hours 0 to 23.
 abbrev pub heatingOf : Cable → List ℕ → Value
-heatingOf cable hours = exactHeating (exactG cable) hours (referenceHour hours)
+heatingOf cable hours = largestᵥ (exactHeating (exactG cable) hours) 24
 
 -- "m²·T is at most 10^12. If m is below 5,000, each larger whole number, squared and times T + 301, is at least 10^12 + 1."
 pub record FactorDemand (cable : Cable) (hours : List ℕ) (m : ℕ) : Type 0 where
   pub not-above : AtLeast (ofInt (pos 1000000000000)) (integer (pos (m * m)) ·ᵥ heatingOf cable hours)
   pub larger-above : m < 5000 → (k : ℕ) → m < k → AtMost (ofInt (pos 1000000000001)) (integer (pos (k * k)) ·ᵥ (heatingOf cable hours +ᵥ integer (pos 301)))
   pub bounded : Bounded (heatingOf cable hours)
+  -- a law beside the promise: the largest of the 24 sums is at least 1/24, so the cap of 5,000 never binds
+  pub below-cap : m ≤ 4898
 
 -- ---- the current of a cable, a preload h, a limit r and minutes
 

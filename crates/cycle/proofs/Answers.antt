@@ -19,14 +19,14 @@ use Rattle.cable.proofs.Acceptance.{accepted-is}
 use Rattle.share.specs.Answer.{mostMinutes, shareAnswer}
 use Rattle.share.specs.declared.ShareAnswer.the-variants as S
 use Rattle.share.proofs.Promises.{share-pair-range}
-use Rattle.cycle.specs.Day.{dayHours, highestLoad, referenceHour}
-use Rattle.cycle.specs.Heating.{heatingHours, heatingSum}
+use Rattle.cycle.specs.Day.{dayHours, highestLoad}
+use Rattle.cycle.specs.Heating.{heatingHours, heatingSum, referenceHour}
 use Rattle.cycle.specs.Factor.{largestFactor}
 use Rattle.cycle.specs.Answer.{firstAbove, allZero, refused10, refused11, factorFrom, hourPair, factorAnswer}
 use Rattle.cycle.specs.Asked.{Ready}
 use Rattle.cycle.specs.declared.FactorAnswer.{FactorAnswer}
 use Rattle.cycle.specs.declared.FactorAnswer.the-variants.{Factor, Refused}
-use Rattle.cycle.proofs.Day.{highest-zero, one-loaded}
+use Rattle.cycle.proofs.Day.{highest-zero, some-loaded}
 
 -- ---- the shares
 
@@ -69,13 +69,13 @@ module _ (cable : Cable) (hours : List ℕ) where
           let all : allZero hours ≡ true = highest-zero hours (rw l z) in
           rw (e, factorAnswer, factorFrom, ← p, le-ltb k dayHours none, all)
 
-      pub factor-given : {r : FactorAnswer} → 0 < highestLoad hours → r ≡ Factor (largestFactor (heatingSum (hourPair c) hours (referenceHour hours))) → r ≡ factorAnswer cable hours
+      pub factor-given : {r : FactorAnswer} → 0 < highestLoad hours → r ≡ Factor (largestFactor (heatingSum (hourPair c) hours (referenceHour (hourPair c) hours))) → r ≡ factorAnswer cable hours
       unfolding factorAnswer factorFrom
       factor-given z q =
-          let some : allZero hours ≡ false = one-loaded hours (referenceHour hours) z in
+          let some : allZero hours ≡ false = some-loaded hours dayHours z in
           q
-          ∙ ap (λ (x : Cable). Factor (largestFactor (heatingSum (hourPair x) hours (referenceHour hours)))) (accepted-is cable c e)
+          ∙ ap (λ (x : Cable). Factor (largestFactor (heatingSum (hourPair x) hours (referenceHour (hourPair x) hours)))) (accepted-is cable c e)
           ∙ rw (e, factorAnswer, factorFrom, ← p, le-ltb k dayHours none, some)
 
-      pub ready : {hour : ℕ} → 0 < highestLoad hours → hour < dayHours → Ready c hours hour
-      ready z h = record { accepted = rw (accepted-is cable c e) (rw (accepted-is cable c e) at e); loaded = z; of-day = h }
+      pub ready : 0 < highestLoad hours → Ready c hours
+      ready z = record { accepted = rw (accepted-is cable c e) (rw (accepted-is cable c e) at e); loaded = z }

@@ -1,18 +1,18 @@
--- The hours of a day: the first above 4,000 A, the latest of the highest, the sum of the squares, each one hour more at a time, as a loop goes; and
--- no load is above the highest.
+-- The hours of a day: the first above 4,000 A, the highest load, the sum of the squares, each one hour more at a time, as a loop goes; and no load is
+-- above the highest.
 use mathlib.Core.Path.{_≡_, refl}
-use mathlib.Core.Bool.{Bool, true, false, cond, _&&_}
+use mathlib.Core.Bool.{Bool, true, false, _&&_}
 use mathlib.Core.List.{List, [], _∷_}
-use mathlib.Core.Logic.{_⊎_, inl, inr, ⊎-elim}
-use Prim.Native.Nat.{ℕ, zero, suc, _+_, _*_, _≤_, _<_}
-use native.Mathlib.Nat.{le-refl, eq-or-lt-of-le, mul-le-mul}
+use Prim.Native.Nat.{ℕ, zero, suc, _+_, _*_, _≤_, _<_, max}
+use native.Mathlib.Nat.{mul-le-mul, max-eq-left, max-eq-right}
 use native.Mathlib.Numerals.{add-one}
 use native.Mathlib.Omega.{arith}
-use borrow.Author.Tests.{leb-true, leb-false, le-leb, lt-leb, le-ltb, lt-ltb, eq-eqb, ne-eqb}
-use lib.Dec.{leb, eqb}
+use borrow.Author.Count.{below-more}
+use borrow.Author.Tests.{leb-true, leb-false, ltb-true, ltb-false, le-ltb, lt-ltb, eq-eqb, ne-eqb}
+use lib.Dec.{leb, ltb, eqb}
 use lib.ListN.{length, drop, getD}
 use lib.Seq.{drop-cons, drop-length}
-use Rattle.cycle.specs.Day.{load, latestHighest, squaredLoad, squaredLoads}
+use Rattle.cycle.specs.Day.{load, highestOf, squaredLoad, squaredLoads}
 use Rattle.cycle.specs.Answer.{mostAmperes, firstAbove, allZero}
 
 -- ---- the first hour above 4,000 A
@@ -28,56 +28,32 @@ module _ (hours : List ℕ) (k : ℕ) where
   pub above-none : length hours ≡ k → firstAbove k (drop k hours) ≡ k
   above-none e = rw (← e, drop-length hours)
 
--- ---- the latest hour of the highest load
+-- ---- the highest load
 
-module _ (hours : List ℕ) (k best : ℕ) (e : best ≡ latestHighest hours k) where
-  pub latest-here : load hours best ≤ load hours k → k ≡ latestHighest hours (k + 1)
-  unfolding latestHighest
-  latest-here h = rw (add-one k, ← e) (simp (le-leb (load hours best) (load hours k) h))
+pub highest-higher : (hours : List ℕ) (k : ℕ) {h : ℕ} → h ≡ highestOf hours k → h < load hours k → load hours k ≡ highestOf hours (k + 1)
+unfolding highestOf
+highest-higher hours k e l = rw (add-one k, ← e) (omega arith)
 
-  pub latest-kept : load hours k < load hours best → best ≡ latestHighest hours (k + 1)
-  unfolding latestHighest
-  latest-kept h = rw (add-one k, ← e) (simp (lt-leb (load hours best) (load hours k) h))
+pub highest-kept : (hours : List ℕ) (k : ℕ) {h : ℕ} → h ≡ highestOf hours k → load hours k ≤ h → h ≡ highestOf hours (k + 1)
+unfolding highestOf
+highest-kept hours k e l = rw (add-one k, ← e) (omega arith)
 
--- no load of the first n hours is higher, and no later hour of them has it
-pub record LatestHighest (hours : List ℕ) (n r : ℕ) : Type 0 where
-  pub highest : (h : ℕ) → h < n → load hours h ≤ load hours r
-  pub latest : (h : ℕ) → h < n → r < h → load hours h < load hours r
+-- no load of the first n hours is higher
+pub is-highest : (hours : List ℕ) (n h : ℕ) → h < n → load hours h ≤ highestOf hours n
+unfolding highestOf
+is-highest hours zero h p = absurd (omega arith)
+is-highest hours (suc n) h p =
+    below-more (λ i. load hours i ≤ max (highestOf hours n) (load hours n)) n (λ i q. omega (arith, is-highest hours n i q)) (omega arith) h (omega arith)
 
-below-next : (h k : ℕ) → h < suc k → (h < k) ⊎ (h ≡ k)
-below-next h k q = ⊎-elim (λ w. inr w) (λ w. inl w) (eq-or-lt-of-le (omega arith))
-
-module _ (hours : List ℕ) where
-  next-hour : (k b : ℕ) (t : Bool) → leb (load hours b) (load hours k) ≡ t → LatestHighest hours k b → b < suc k → LatestHighest hours (suc k) (cond t k b)
-  next-hour k b true e i p =
-      record {
-        highest =
-            λ h q.
-            ⊎-elim (λ w. omega (arith, leb-true (load hours b) (load hours k) e, i .highest h w)) (λ w. rw w (le-refl (load hours k)))
-            (below-next h k q);
-        latest = λ h q r. absurd (omega arith);
-      }
-  next-hour k b false e i p =
-      record {
-        highest =
-            λ h q. ⊎-elim (λ w. i .highest h w) (λ w. rw w (omega (arith, leb-false (load hours b) (load hours k) e))) (below-next h k q);
-        latest = λ h q r. ⊎-elim (λ w. i .latest h w r) (λ w. rw w (leb-false (load hours b) (load hours k) e)) (below-next h k q);
-      }
-
-  latest-below : (k : ℕ) → latestHighest hours k < suc k
-  unfolding latestHighest
-  latest-below zero = omega arith
-  latest-below (suc k) = either (leb (load hours (latestHighest hours k)) (load hours k)) (latestHighest hours k) (latest-below k)
-    where
-      either : (t : Bool) (b : ℕ) → b < suc k → cond t k b < suc (suc k)
-      either true b h = omega arith
-      either false b h = omega arith
-
-  pub is-latest-highest : (k : ℕ) → LatestHighest hours k (latestHighest hours k)
-  unfolding latestHighest
-  is-latest-highest zero = record { highest = λ h q. absurd (omega arith); latest = λ h q r. absurd (omega arith) }
-  is-latest-highest (suc k) =
-      next-hour k (latestHighest hours k) (leb (load hours (latestHighest hours k)) (load hours k)) refl (is-latest-highest k) (latest-below k)
+-- .. and it is one of them, so that its square is among those summed
+pub highest-summed : (hours : List ℕ) (n : ℕ) → highestOf hours n * highestOf hours n ≤ squaredLoads hours n
+unfolding highestOf squaredLoads
+highest-summed hours zero = omega arith
+highest-summed hours (suc n) = either (leb (highestOf hours n) (load hours n)) (highestOf hours n) (load hours n) refl (highest-summed hours n)
+  where
+    either : (t : Bool) (a b : ℕ) {s : ℕ} → leb a b ≡ t → a * a ≤ s → max a b * max a b ≤ s + b * b
+    either true a b e h = rw (max-eq-right (leb-true a b e)) (omega arith)
+    either false a b e h = rw (max-eq-left {n = a} {m = b} (omega (arith, leb-false a b e))) (omega arith)
 
 -- ---- the sum of the squares
 
@@ -94,16 +70,7 @@ squares-to hours x (suc n) h =
 
 -- ---- all hours 0
 
--- a list is all zero where each of its numbers is
-zeros : (xs : List ℕ) → ((k : ℕ) → k < length xs → getD xs k 0 ≡ 0) → allZero xs ≡ true
-zeros [] h = refl
-zeros (x ∷ xs) h = rw (eq-eqb x 0 (h 0 (omega arith)), zeros xs (λ k p. h (suc k) (omega arith)))
-
-module _ (hours : List ℕ) where
-  pub highest-zero : load hours (latestHighest hours (length hours)) ≡ 0 → allZero hours ≡ true
-  highest-zero e = zeros hours (λ k p. omega (arith, is-latest-highest hours (length hours) .highest k p))
-
-pub one-loaded : (xs : List ℕ) (k : ℕ) → 0 < getD xs k 0 → allZero xs ≡ false
+one-loaded : (xs : List ℕ) (k : ℕ) → 0 < getD xs k 0 → allZero xs ≡ false
 one-loaded [] k h = absurd (omega arith)
 one-loaded (x ∷ xs) zero h = rw (ne-eqb x 0 (λ e. omega arith))
 one-loaded (x ∷ xs) (suc k) h = rw (one-loaded xs k h) (never (eqb x 0))
@@ -111,3 +78,21 @@ one-loaded (x ∷ xs) (suc k) h = rw (one-loaded xs k h) (never (eqb x 0))
     never : (t : Bool) → (t && false) ≡ false
     never true = refl
     never false = refl
+
+pub some-loaded : (hours : List ℕ) (n : ℕ) → 0 < highestOf hours n → allZero hours ≡ false
+unfolding highestOf
+some-loaded hours zero h = absurd (omega arith)
+some-loaded hours (suc n) h = either (ltb 0 (load hours n)) refl (λ p. some-loaded hours n p)
+  where
+    either : (t : Bool) → ltb 0 (load hours n) ≡ t → (0 < highestOf hours n → allZero hours ≡ false) → allZero hours ≡ false
+    either true e k = one-loaded hours n (ltb-true 0 (load hours n) e)
+    either false e k = k (omega (arith, ltb-false 0 (load hours n) e))
+
+-- a list is all zero where each of its numbers is
+zeros : (xs : List ℕ) → ((k : ℕ) → k < length xs → getD xs k 0 ≡ 0) → allZero xs ≡ true
+zeros [] h = refl
+zeros (x ∷ xs) h = rw (eq-eqb x 0 (h 0 (omega arith)), zeros xs (λ k p. h (suc k) (omega arith)))
+
+module _ (hours : List ℕ) where
+  pub highest-zero : highestOf hours (length hours) ≡ 0 → allZero hours ≡ true
+  highest-zero e = zeros hours (λ k p. omega (arith, is-highest hours (length hours) k p))

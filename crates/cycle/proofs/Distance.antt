@@ -1,5 +1,5 @@
--- How far the factor may be from the exact factor: document 01, 'What the distances say'. For every width of the shares' pairs, every exact shares that
--- lie between them, every reference hour.
+-- How far the heating sum of an hour may be from the exact one, and the factor of a sum from the exact factor: document 01, 'What the distances say'. For every
+-- width of the shares' pairs, all exact shares that lie between them, every reference hour.
 use mathlib.Core.Path.{_≡_, refl}
 use mathlib.Core.Bool.{true, false}
 use mathlib.Core.List.{List}
@@ -22,7 +22,7 @@ use Rattle.exact.proofs.Plain.{both}
 use Rattle.exact.proofs.Values.{constant⊴, add⊴, mul⊴, quot⊴}
 use Rattle.distance.specs.Around.{Around}
 use Rattle.distance.proofs.Around.{around-integer, around-add, around-times, around-divided}
-use Rattle.distance.proofs.Spread.{Spread, spread-point, spread-more, spread-add, spread-times, spread-quotient, quotient-bounds, most-below, most-add, most-times, least-above, least-times}
+use Rattle.distance.proofs.Spread.{Spread, spread-point, spread-more, spread-add, spread-times, spread-quotient, quotient-bounds, most-below, most-times, least-above, least-times}
 use Rattle.distance.proofs.Enclosed.{Enclosed, enclosed-around, enclosed-spread}
 use Rattle.share.specs.Promises.{shareWidth}
 use Rattle.cycle.specs.Heating.{heatingHours, commonDivisor, relativeLoad, gatheredLoad, gatheredBounds, heatingBounds, heatingSum}
@@ -33,9 +33,15 @@ use Rattle.cycle.proofs.FactorTest.{nothing-allowed, never-below}
 
 -- ---- the sum
 
+-- no lower fraction of the gathered sum exceeds an upper one, where none of a share does
+module _ (shares : ℕ → Value) (sound : (i : ℕ) → i < heatingHours → shares (60 * suc i) ⊴ shares (60 * suc i)) (hours : List ℕ) (hour : ℕ) where
+  pub gathered-sound : (n : ℕ) → n ≤ heatingHours → exactGathered shares hours hour n ⊴ exactGathered shares hours hour n
+  unfolding exactGathered
+  gathered-sound zero h = constant⊴ (refl≼ₛ _)
+  gathered-sound (suc n) h = add⊴ (gathered-sound n (omega arith)) (mul⊴ (constant⊴ (refl≼ₛ (ofInt (gatheredLoad hours hour n)))) (sound n (omega arith)))
+
 module _ (width : ℕ) (shares : ℕ → Value) (pairs : ℕ → Bounds) (each : (i : ℕ) → i < heatingHours → Enclosed width (shares (60 * suc i)) (pairs (suc i))) (hours : List ℕ) (hour : ℕ) where
   record SumHeld (n : ℕ) : Type 0 where
-    sound : exactGathered shares hours hour n ⊴ exactGathered shares hours hour n
     around : Around (gatheredBounds hours hour pairs n) (exactGathered shares hours hour n)
     spread : Spread (n * width * commonDivisor hours) (gatheredBounds hours hour pairs n)
 
@@ -44,41 +50,38 @@ module _ (width : ℕ) (shares : ℕ → Value) (pairs : ℕ → Bounds) (each :
   unfolding gatheredBounds exactGathered
   sum-held zero h =
       let z = pos (relativeLoad hours hour heatingHours * 1000000) in
-      record { sound = constant⊴ (refl≼ₛ (ofInt z)); around = around-integer z; spread = spread-more (omega arith) (spread-point z) }
+      record { around = around-integer z; spread = spread-more (omega arith) (spread-point z) }
   sum-held (suc n) h =
       let z = gatheredLoad hours hour n in
       let e = each n (omega arith) in
       let before = sum-held n (omega arith) in
       record {
-        sound = add⊴ (before .sound) (mul⊴ (constant⊴ (refl≼ₛ (ofInt z))) (e .sound));
         around = around-add (before .around) (around-times z (e .sound) (enclosed-around e));
         spread =
             spread-more (omega (arith, mul-le-mul-right width (load-sized hours hour n .low)))
             (spread-add (before .spread) (spread-times z (e .promised .ordered) (enclosed-spread e)));
       }
 
+  whole-sound : exactGathered shares hours hour heatingHours ⊴ exactGathered shares hours hour heatingHours
+  whole-sound = gathered-sound shares (λ i h. each i h .sound) hours hour heatingHours (le-refl heatingHours)
+
   module _ (zd : 0 < commonDivisor hours) where
     pub heating-sound : exactHeating shares hours hour ⊴ exactHeating shares hours hour
     unfolding exactHeating
-    heating-sound = quot⊴ (sum-held heatingHours (le-refl heatingHours) .sound) (constant⊴ (refl≼ₛ (ofFrac (whole (commonDivisor hours)))))
+    heating-sound = quot⊴ whole-sound (constant⊴ (refl≼ₛ (ofFrac (whole (commonDivisor hours)))))
 
-    heating-around : Around (heatingBounds pairs hours hour) (exactHeating shares hours hour)
+    pub heating-around : Around (heatingBounds pairs hours hour) (exactHeating shares hours hour)
     unfolding heatingBounds exactHeating
-    heating-around =
-        let held = sum-held heatingHours (le-refl heatingHours) in
-        around-divided (commonDivisor hours) zd (held .sound) (held .around)
+    heating-around = around-divided (commonDivisor hours) zd whole-sound (sum-held heatingHours (le-refl heatingHours) .around)
 
     -- whatever more `sumWidth` were to allow: `sum-width-is` and a worked example hold it
-    heating-spread : Spread (sumWidth width) (heatingBounds pairs hours hour)
+    pub heating-spread : Spread (sumWidth width) (heatingBounds pairs hours hour)
     unfolding heatingBounds
     heating-spread = spread-more (omega arith) (spread-quotient zd (heatingHours * width) (sum-held heatingHours (le-refl heatingHours) .spread))
 
-    -- the rounded sum is at least T, and at most T + 6·width + 1
+    -- the rounded sum is at least the exact one
     pub sum-at-least : AtLeast (ofInt (heatingSum pairs hours hour)) (exactHeating shares hours hour)
     sum-at-least = heating-around .high-at-least
-
-    pub sum-at-most : AtMost (ofInt (heatingSum pairs hours hour)) (exactHeating shares hours hour +ᵥ integer (pos (sumWidth width)))
-    sum-at-most = most-below (heating-spread .narrow) (most-add (heatingBounds pairs hours hour .low) (pos (sumWidth width)) (heating-around .low-at-most))
 
 -- every order that gives bounds of the six shares gives bounds of the sum
 module _ (shares : ℕ → Value) (o : ℕ) (each : (i : ℕ) → i < heatingHours → T (shares (60 * suc i) .ok o)) (hours : List ℕ) (hour : ℕ) where
@@ -104,8 +107,9 @@ past-heating (pos s) m k e h =
     lin-le (pos (mostHeating + 1)) (pos (k * k * s)) (omega (arith, leb-false (s * (m * m)) mostHeating e, mul-le-mul-left s (mul-le-mul h h)))
 past-heating (negsuc s) m k e h = absurd (never-below s m e)
 
+-- of any sum that is at least T and at most `sumWidth` above it
 module _ (width : ℕ) (heating : Value) (sound : heating ⊴ heating) (sum : ℤ) where
-  factor-near : AtLeast (ofInt sum) heating → AtMost (ofInt sum) (heating +ᵥ integer (pos (sumWidth width))) → FactorDistance width heating (largestFactor sum)
+  pub factor-near : AtLeast (ofInt sum) heating → AtMost (ofInt sum) (heating +ᵥ integer (pos (sumWidth width))) → FactorDistance width heating (largestFactor sum)
   factor-near l u =
       let m = largestFactor sum in
       let is : Largest (allowed sum) mostFactor m = is-largest (allowed sum) (nothing-allowed sum) mostFactor in
@@ -116,11 +120,6 @@ module _ (width : ℕ) (heating : Value) (sound : heating ⊴ heating) (sum : �
             most-below (past-heating sum (suc m) k (is .none-above (suc m) (omega arith) (omega arith)) (omega arith))
             (most-times (k * k) sum (add⊴ sound (constant⊴ (refl≼ₛ (ofInt (pos (sumWidth width)))))) u);
       }
-
-pub factor-distance : (width : ℕ) (shares : ℕ → Value) (pairs : ℕ → Bounds) → ((i : ℕ) → i < heatingHours → Enclosed width (shares (60 * suc i)) (pairs (suc i))) → (hours : List ℕ) (hour : ℕ) → 0 < commonDivisor hours
-    → FactorDistance width (exactHeating shares hours hour) (largestFactor (heatingSum pairs hours hour))
-factor-distance width shares pairs each hours hour zd =
-    factor-near width (exactHeating shares hours hour) (heating-sound width shares pairs each hours hour zd) (heatingSum pairs hours hour) (sum-at-least width shares pairs each hours hour zd) (sum-at-most width shares pairs each hours hour zd)
 
 -- "T + 301"
 pub sum-width-is : sumWidth shareWidth ≡ 301

@@ -20,7 +20,7 @@ use Rattle.bounds.proofs.Sizes.{sized-more, add-sized, mul-sized}
 use Rattle.cycle.specs.Day.{dayHours, load, highestLoad, earlier, squaredLoad, squaredLoads}
 use Rattle.cycle.specs.Heating.{heatingHours, commonDivisor, relativeLoad, fromStart, writtenSteps, writtenSum, gatheredLoad, gatheredSum, gatheredBounds, heatingBounds}
 use Rattle.cycle.specs.Asked.{mostDivisor}
-use Rattle.cycle.proofs.Day.{is-latest-highest, squares-to}
+use Rattle.cycle.proofs.Day.{is-highest, squares-to}
 
 -- ---- differences
 
@@ -118,12 +118,12 @@ module _ (hours : List ℕ) (hour m : ℕ) (G : ℕ → ℤ) (pairs : ℕ → Bo
 
 -- ---- sizes
 
-relative-to : (hours : List ℕ) (hour i : ℕ) → relativeLoad hours hour i ≤ commonDivisor hours
+pub relative-to : (hours : List ℕ) (hour i : ℕ) → relativeLoad hours hour i ≤ commonDivisor hours
 unfolding relativeLoad
 relative-to hours hour i = by (ltb i heatingHours)
   where
     no-higher : (h : ℕ) → h < dayHours → load hours h ≤ highestLoad hours
-    no-higher = is-latest-highest hours dayHours .highest
+    no-higher = is-highest hours dayHours
 
     by : (t : Bool) → cond t (dayHours * squaredLoad hours (earlier hour i)) (squaredLoads hours dayHours) ≤ commonDivisor hours
     by true =
@@ -159,8 +159,8 @@ module _ (hours : List ℕ) (hour : ℕ) where
 
 -- ---- one share more, as the code goes
 
-pub first-sum : (hours : List ℕ) (hour : ℕ) (pairs : ℕ → Bounds) {n : ℕ} → n ≡ relativeLoad hours hour heatingHours → pointB (pos (n * 1000000)) ≡ gatheredBounds hours hour pairs 0
-unfolding gatheredBounds
+pub first-sum : (hours : List ℕ) (hour : ℕ) (pairs : ℕ → Bounds) {n : ℕ} → n ≡ squaredLoads hours dayHours → pointB (pos (n * 1000000)) ≡ gatheredBounds hours hour pairs 0
+unfolding gatheredBounds relativeLoad
 first-sum hours hour pairs e = rw e
 
 pub difference-point : (a b : ℕ) → addB (pointB (pos a)) (negB (pointB (pos b))) ≡ pointB (pos a -ℤ pos b)

@@ -5,12 +5,13 @@ use mathlib.Core.List.{List}
 use Prim.Native.Nat.{ℕ, zero, suc, _*_, _≤_, _<_}
 use native.Mathlib.Nat.{le-refl}
 use native.Mathlib.Omega.{arith}
-use lib.IntN.{ℤ, pos, _*ℤ_}
+use lib.IntN.{ℤ, pos}
 use lib.Signed.{_≤ℤ_, ≤ℤ-refl}
 use Rattle.numbers.specs.Integer.{greater}
-use Rattle.numbers.proofs.Integers.{le-lin, lin-le, mul-lin, ≤ℤ-trans, add-term, factor-not-negative, greater-left, greater-right, greater-both}
+use Rattle.numbers.proofs.Integers.{≤ℤ-trans, add-term, factor-not-negative, greater-left, greater-right, greater-both}
 use Rattle.bounds.specs.Promises.{In}
 use Rattle.bounds.specs.declared.Bounds.{Bounds}
+use Rattle.bounds.proofs.Enclosure.{over-one}
 use Rattle.cable.specs.Checks.{checked}
 use Rattle.cable.specs.declared.Cable.{Cable}
 use Rattle.cable.specs.declared.CableCheck.the-variants as C
@@ -39,13 +40,6 @@ module _ (hours : List ℕ) (hour : ℕ) (G : ℕ → ℤ) (rises : (i : ℕ) �
 pub record RisingPairs (pairs : ℕ → Bounds) : Type 0 where
   pub range : (i : ℕ) → i < heatingHours → Millionths (pairs (suc i))
   pub low-to-later-high : (j i : ℕ) → j ≤ i → i < heatingHours → pairs (suc j) .low ≤ℤ pairs (suc i) .high
-
-over-one : (b : Bounds) (x : ℤ) → b .low ≤ℤ x → x ≤ℤ b .high → In b x 1
-over-one b x l h =
-    record {
-      from = lin-le (b .low *ℤ pos 1) x (omega (arith, le-lin l, mul-lin (b .low) (pos 1)));
-      to = lin-le x (b .high *ℤ pos 1) (omega (arith, le-lin h, mul-lin (b .high) (pos 1)));
-    }
 
 module _ (pairs : ℕ → Bounds) where
   -- the greatest of the first n low ends and of G(0), which is 0

@@ -15,10 +15,10 @@ use Rattle.cable.specs.declared.CableCheck.{CableCheck}
 use Rattle.cable.specs.declared.CableCheck.the-variants as C
 use Rattle.share.specs.Pair.{sharePair}
 use Rattle.share.specs.Promises.{shareWidth, exactShare}
-use Rattle.cycle.specs.Day.{dayHours, referenceHour}
-use Rattle.cycle.specs.Heating.{heatingSum}
+use Rattle.cycle.specs.Day.{dayHours}
+use Rattle.cycle.specs.Heating.{heatingSum, referenceHour}
 use Rattle.cycle.specs.Factor.{largestFactor}
-use Rattle.cycle.specs.Exact.{exactHeating, FactorDistance}
+use Rattle.cycle.specs.Exact.{largestHeating, FactorDistance}
 use Rattle.cycle.specs.declared.FactorAnswer.{FactorAnswer}
 use Rattle.cycle.specs.declared.FactorAnswer.the-variants.{Factor, Refused}
 
@@ -47,7 +47,7 @@ unfoldable pub factorFrom : (ℕ → Bounds) → List ℕ → FactorAnswer
 factorFrom pairs hours =
     cond (ltb (firstAbove 0 hours) dayHours) (Refused (refused10 (firstAbove 0 hours)))
     (cond (allZero hours) (Refused refused11)
-    (Factor (largestFactor (heatingSum pairs hours (referenceHour hours)))))
+    (Factor (largestFactor (heatingSum pairs hours (referenceHour pairs hours)))))
 
 -- what follows where checks 2 and 3 pass; their refusal passes out unchanged
 abbrev pub afterChecks : CableCheck → FactorAnswer → FactorAnswer
@@ -69,4 +69,4 @@ statedFactor (Refused f) = statedRefusal f
 -- the answer, and how far a factor may be from the exact one: 'What the distances say'
 pub record FactorSaid (cable : Cable) (hours : List ℕ) (r : FactorAnswer) : Type 0 where
   pub answer : r ≡ factorAnswer cable hours
-  pub distance : (m : ℕ) → statedFactor r ≡ statedValues (pos m ∷ []) → FactorDistance shareWidth (exactHeating (exactShare cable) hours (referenceHour hours)) m
+  pub distance : (m : ℕ) → statedFactor r ≡ statedValues (pos m ∷ []) → FactorDistance shareWidth (largestHeating (exactShare cable) hours) m

@@ -1,21 +1,47 @@
 -- What the functions below `factor` ask.
 use mathlib.Core.Path.{_≡_}
 use mathlib.Core.List.{List}
-use Prim.Native.Nat.{ℕ, _<_}
+use Prim.Native.Nat.{ℕ, zero, suc, _≤_, _<_}
+use lib.IntN.{pos}
+use lib.ListN.{getD}
+use Rattle.bounds.specs.Operations.{pointB}
+use Rattle.bounds.specs.Promises.{Sized}
+use Rattle.bounds.specs.declared.Bounds.{Bounds}
 use Rattle.cable.specs.Checks.{checked}
 use Rattle.cable.specs.declared.Cable.{Cable}
 use Rattle.cable.specs.declared.CableCheck.the-variants as C
-use Rattle.cycle.specs.Day.{dayHours, highestLoad}
+use Rattle.cycle.specs.Day.{dayHours, highestLoad, squaredLoads}
+use Rattle.cycle.specs.Heating.{commonDivisor}
 
--- Checks 2, 3 and 11 passed, and an hour of the day.
-pub record Ready (cable : Cable) (hours : List ℕ) (hour : ℕ) : Type 0 where
+-- Checks 2, 3 and 11 passed.
+pub record Ready (cable : Cable) (hours : List ℕ) : Type 0 where
   pub accepted : checked cable ≡ C.Accepted cable
   pub loaded : 0 < highestLoad hours
-  pub of-day : hour < dayHours
+
+-- The pairs of six shares in a list, as G(1), G(2), ..
+abbrev pub pairsOf : List Bounds → ℕ → Bounds
+pairsOf shares zero = pointB (pos 0)
+pairsOf shares (suc i) = getD shares i (pointB (pos 0))
 
 -- 24·65,535²: loads of 16 bits have no larger common divisor.
 abbrev pub mostDivisor : ℕ
 mostDivisor = 103076069400
+
+-- Shares of at most 1,000,000 in size, and check 11 passed.
+pub record Shared (shares : List Bounds) (hours : List ℕ) : Type 0 where
+  pub sized : (i : ℕ) → Sized 1000000 (pairsOf shares (suc i))
+  pub loaded : 0 < highestLoad hours
+
+-- An hour of the day, and the mean of all 24 in its common units.
+pub record AtHour (hours : List ℕ) (hour mean : ℕ) : Type 0 where
+  pub of-day : hour < dayHours
+  pub mean-is : mean ≡ squaredLoads hours dayHours
+  pub mean-to : mean ≤ mostDivisor
+
+-- The common divisor of the day.
+pub record DivisorOf (hours : List ℕ) (divisor : ℕ) : Type 0 where
+  pub is : divisor ≡ commonDivisor hours
+  pub to : divisor ≤ mostDivisor
 
 -- No heating sum is larger, in millionths: the gathered numbers and the constant are at most the common divisor each.
 abbrev pub mostSum : ℕ

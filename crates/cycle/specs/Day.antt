@@ -1,8 +1,6 @@
--- Document 01, 'The daily cycle': twenty-four hourly amperes, the reference hour, and the hours before it.
-use mathlib.Core.Bool.{cond}
+-- Document 01, 'The daily cycle': twenty-four hourly amperes, the highest of them, and the hours before an hour.
 use mathlib.Core.List.{List}
-use Prim.Native.Nat.{ℕ, zero, suc, _+_, _-_, _*_, _%_}
-use lib.Dec.{leb}
+use Prim.Native.Nat.{ℕ, zero, suc, _+_, _-_, _*_, _%_, max}
 use lib.ListN.{getD}
 
 -- "hours 0 to 23"
@@ -12,18 +10,14 @@ dayHours = 24
 abbrev pub load : List ℕ → ℕ → ℕ
 load hours hour = getD hours hour 0
 
--- the latest hour of the highest load among the first n
-unfoldable pub latestHighest : List ℕ → ℕ → ℕ
-latestHighest hours zero = 0
-latestHighest hours (suc n) =
-    cond (leb (load hours (latestHighest hours n)) (load hours n)) n (latestHighest hours n)
+-- the highest load of the first n hours, and 0 of none
+unfoldable pub highestOf : List ℕ → ℕ → ℕ
+highestOf hours zero = 0
+highestOf hours (suc n) = max (highestOf hours n) (load hours n)
 
+-- "Y0 is its squared load over the squared highest"
 abbrev pub highestLoad : List ℕ → ℕ
-highestLoad hours = load hours (latestHighest hours dayHours)
-
--- "The reference hour is that of the highest load, the latest such hour where several are equal."
-abbrev pub referenceHour : List ℕ → ℕ
-referenceHour hours = latestHighest hours dayHours
+highestLoad hours = highestOf hours dayHours
 
 -- i hours before an hour, "hour 23 coming before hour 0"
 abbrev pub earlier : ℕ → ℕ → ℕ

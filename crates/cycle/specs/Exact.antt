@@ -5,7 +5,8 @@ use Prim.Native.Nat.{ℕ, zero, suc, _+_, _*_, _<_}
 use lib.IntN.{pos}
 use Rattle.numbers.specs.Fraction.{whole}
 use Rattle.numbers.specs.Signed.{ofInt}
-use Rattle.exact.specs.Value.{Value, AtMost, AtLeast, number, integer, _+ᵥ_, _·ᵥ_, _/ᵥ_}
+use Rattle.exact.specs.Value.{Value, AtMost, AtLeast, number, integer, _+ᵥ_, _·ᵥ_, _/ᵥ_, largestᵥ}
+use Rattle.cycle.specs.Day.{dayHours}
 use Rattle.cycle.specs.Heating.{heatingHours, commonDivisor, relativeLoad, gatheredLoad}
 
 -- 'The daily cycle', "Gather what multiplies each G", "with G at whole hours": the terms of G(1) to G(n), on what multiplies none of them
@@ -13,9 +14,13 @@ unfoldable pub exactGathered : (ℕ → Value) → List ℕ → ℕ → ℕ → 
 exactGathered shares hours hour zero = integer (pos (relativeLoad hours hour heatingHours * 1000000))
 exactGathered shares hours hour (suc i) = exactGathered shares hours hour i +ᵥ integer (gatheredLoad hours hour i) ·ᵥ shares (60 * suc i)
 
--- "let T be the exact heating sum in millionths"
+-- the exact heating sum in millionths, for a reference hour
 unfoldable pub exactHeating : (ℕ → Value) → List ℕ → ℕ → Value
 exactHeating shares hours hour = exactGathered shares hours hour heatingHours /ᵥ number (whole (commonDivisor hours))
+
+-- T. Document 02, note 1: "The factor rule now speaks of the largest exact sum, at the same distance."
+abbrev pub largestHeating : (ℕ → Value) → List ℕ → Value
+largestHeating shares hours = largestᵥ (exactHeating shares hours) dayHours
 
 -- the rounded sum is at most this above T: the width of each share's pair, and 1 for rounding up
 abbrev pub sumWidth : ℕ → ℕ

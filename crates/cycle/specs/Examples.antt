@@ -1,5 +1,5 @@
 -- Worked examples of the daily cycle: document 01, 'The daily cycle', 'When the desk is told no', numbers 10 and 11, and 'Wrong turns that look
--- sensible'. The shares are pairs given by hand.
+-- sensible'; document 02, note 1. The shares are pairs given by hand.
 use mathlib.Core.Path.{_≡_, refl}
 use mathlib.Core.List.{List, [], _∷_}
 use Prim.Native.Nat.{ℕ, zero, suc}
@@ -19,8 +19,8 @@ use Rattle.cable.specs.declared.Cable.{Cable}
 use Rattle.cable.specs.declared.CableCheck.the-variants as C
 use Rattle.cable.specs.declared.Place.the-variants.{None}
 use Rattle.share.specs.Pair.{sharePair}
-use Rattle.cycle.specs.Day.{referenceHour, latestHighest, earlier, squaredLoads}
-use Rattle.cycle.specs.Heating.{relativeLoad, gatheredBounds, heatingBounds, heatingSum}
+use Rattle.cycle.specs.Day.{highestLoad, highestOf, earlier, squaredLoads}
+use Rattle.cycle.specs.Heating.{relativeLoad, gatheredBounds, heatingBounds, heatingSum, latestLargest, referenceHour}
 use Rattle.cycle.specs.Factor.{allowed, largestFactor}
 use Rattle.cycle.specs.Exact.{FactorDistance}
 use Rattle.cycle.specs.Answer.{hourPair, refused10, refused11, factorFrom, afterChecks, statedFactor}
@@ -44,16 +44,11 @@ rising (suc (suc (suc (suc zero)))) = pair 400000 400040
 rising (suc (suc (suc (suc (suc zero))))) = pair 500000 500040
 rising (suc (suc (suc (suc (suc (suc n)))))) = pair 600000 600040
 
--- ---- the reference hour and the hours before it
+-- ---- the highest load and the hours before an hour
 
-latest-of-equal : referenceHour (of 3 100 (of 2 300 (of 4 100 (of 1 300 (of 14 100 []))))) ≡ 9
-unfolding latestHighest
-latest-of-equal = refl
-
--- the largest number, and not the latest of a run across midnight
-latest-by-number : referenceHour (of 3 300 (of 18 100 (of 3 300 []))) ≡ 23
-unfolding latestHighest
-latest-by-number = refl
+highest-at-23 : highestLoad (of 3 100 (of 2 300 (of 18 100 (of 1 301 [])))) ≡ 301
+unfolding highestOf
+highest-at-23 = refl
 
 before-midnight : earlier 0 1 ≡ 23
 before-midnight = refl
@@ -78,23 +73,44 @@ mean-at-six = refl
 
 -- an even load: nothing multiplies any share, and the sum is 1 whatever the pairs are
 even-load : heatingSum rising (of 24 200 []) 23 ≡ pos 1000000
-unfolding heatingBounds gatheredBounds relativeLoad squaredLoads latestHighest addB mulB dividedB floorZ ceilZ lesser greater
+unfolding heatingBounds gatheredBounds relativeLoad squaredLoads highestOf addB mulB dividedB floorZ ceilZ lesser greater
 even-load = refl
 
 -- one hour loaded: (24·G(1) − G(6) + 1,000,000) / 24 with the high G(1) and the low G(6), 116,706.67 rounded up
 one-hour : heatingSum rising (of 7 0 (of 1 400 (of 16 0 []))) 7 ≡ pos 116707
-unfolding heatingBounds gatheredBounds relativeLoad squaredLoads latestHighest addB mulB dividedB floorZ ceilZ lesser greater
+unfolding heatingBounds gatheredBounds relativeLoad squaredLoads highestOf addB mulB dividedB floorZ ceilZ lesser greater
 one-hour = refl
 
 -- (72·G(1) + 24·G(2) − 5·G(6) + 5,000,000) / 96 is 145,873.33
 sum-across-midnight : heatingSum rising (of 1 2 (of 22 0 (of 1 1 []))) 0 ≡ pos 145874
-unfolding heatingBounds gatheredBounds relativeLoad squaredLoads latestHighest addB mulB dividedB floorZ ceilZ lesser greater
+unfolding heatingBounds gatheredBounds relativeLoad squaredLoads highestOf addB mulB dividedB floorZ ceilZ lesser greater
 sum-across-midnight = refl
 
 -- another reference hour, where Y0 is below 1: (−192·G(1) + 216·G(2) − 10·G(6) + 10,000,000) / 216 is 129,669.63
 another-hour : heatingSum rising (of 1 3 (of 1 1 (of 22 0 []))) 1 ≡ pos 129670
-unfolding heatingBounds gatheredBounds relativeLoad squaredLoads latestHighest addB mulB dividedB floorZ ceilZ lesser greater
+unfolding heatingBounds gatheredBounds relativeLoad squaredLoads highestOf addB mulB dividedB floorZ ceilZ lesser greater
 another-hour = refl
+
+-- ---- the hottest hour
+
+-- "A farm with a long evening plateau and a short, slightly higher morning peak was rated at the peak": 380 A in hours 16 to 21, 400 A in hour 7
+abbrev plateau : List ℕ
+plateau = of 7 0 (of 1 400 (of 8 0 (of 6 380 (of 2 0 []))))
+
+-- "The conductor is hottest at the end of the plateau."
+end-of-plateau : referenceHour rising plateau ≡ 21
+unfolding latestLargest heatingBounds gatheredBounds relativeLoad squaredLoads highestOf addB mulB dividedB floorZ ceilZ lesser greater
+end-of-plateau = refl
+
+-- six equal hours from 21 to 2: the last of the run is the hottest, and not hour 23, the latest of the highest load
+across-the-night : referenceHour rising (of 3 400 (of 18 0 (of 3 400 []))) ≡ 2
+unfolding latestLargest heatingBounds gatheredBounds relativeLoad squaredLoads highestOf addB mulB dividedB floorZ ceilZ lesser greater
+across-the-night = refl
+
+-- all hours are equally hot: the latest
+latest-of-equally-hot : referenceHour rising (of 24 200 []) ≡ 23
+unfolding latestLargest heatingBounds gatheredBounds relativeLoad squaredLoads highestOf addB mulB dividedB floorZ ceilZ lesser greater
+latest-of-equally-hot = refl
 
 -- ---- the factor
 
@@ -120,15 +136,20 @@ unfolding largest allowed
 factor-of-nothing = refl
 
 even-factor : factorFrom rising (of 24 200 []) ≡ Factor 1000
-unfolding factorFrom heatingBounds gatheredBounds relativeLoad squaredLoads latestHighest addB mulB dividedB floorZ ceilZ lesser greater largest allowed
+unfolding factorFrom latestLargest heatingBounds gatheredBounds relativeLoad squaredLoads highestOf addB mulB dividedB floorZ ceilZ lesser greater largest allowed
 even-factor = refl
+
+-- (2,439,200·G(6) + 1,026,400·1,000,000) / 3,840,000 with the high G(6) is 648,442.07; at hour 7 the sum is 206,957, and the factor would be 2,198
+plateau-factor : factorFrom rising plateau ≡ Factor 1241
+unfolding factorFrom latestLargest heatingBounds gatheredBounds relativeLoad squaredLoads highestOf addB mulB dividedB floorZ ceilZ lesser greater largest allowed
+plateau-factor = refl
 
 -- shares that are all but 1: (24·G(1) − G(6) + 1,000,000) / 24 passes 1,000,000
 abbrev nearly : ℕ → Bounds
 nearly hour = pair 999999 1000000
 
 nearly-even : factorFrom nearly (of 1 400 (of 23 0 [])) ≡ Factor 999
-unfolding factorFrom heatingBounds gatheredBounds relativeLoad squaredLoads latestHighest addB mulB dividedB floorZ ceilZ lesser greater largest allowed
+unfolding factorFrom latestLargest heatingBounds gatheredBounds relativeLoad squaredLoads highestOf addB mulB dividedB floorZ ceilZ lesser greater largest allowed
 nearly-even = refl
 
 -- ---- the distance
@@ -177,7 +198,7 @@ unfolding factorFrom
 last-hour = refl
 
 most-amperes : factorFrom rising (of 24 4000 []) ≡ Factor 1000
-unfolding factorFrom heatingBounds gatheredBounds relativeLoad squaredLoads latestHighest addB mulB dividedB floorZ ceilZ lesser greater largest allowed
+unfolding factorFrom latestLargest heatingBounds gatheredBounds relativeLoad squaredLoads highestOf addB mulB dividedB floorZ ceilZ lesser greater largest allowed
 most-amperes = refl
 
 -- "24 zeros"

@@ -1,10 +1,11 @@
 -- Document 01, 'The daily cycle': the heating sum of a cycle for a reference hour, from the shares G(1) to G(6), as it is written and gathered. Both are
--- taken times 24·(highest load)², which leaves no fractions.
+-- taken times 24·(highest load)², which leaves no fractions. And the reference hour.
 use mathlib.Core.Bool.{cond}
 use mathlib.Core.List.{List}
 use Prim.Native.Nat.{ℕ, zero, suc, _*_}
 use lib.Dec.{ltb}
 use lib.IntN.{ℤ, pos, _+ℤ_, _-ℤ_, _*ℤ_}
+use lib.Signed.{leZ}
 use Rattle.bounds.specs.Operations.{pointB, addB, mulB, dividedB}
 use Rattle.bounds.specs.declared.Bounds.{Bounds}
 use Rattle.cycle.specs.Day.{dayHours, highestLoad, earlier, squaredLoad, squaredLoads}
@@ -63,3 +64,15 @@ heatingBounds pairs hours hour = dividedB (gatheredBounds hours hour pairs heati
 -- "round the sum up to millionths"
 abbrev pub heatingSum : (ℕ → Bounds) → List ℕ → ℕ → ℤ
 heatingSum pairs hours hour = heatingBounds pairs hours hour .high
+
+-- ---- the reference hour
+
+-- the latest of the first n numbers that none of them exceeds, and 0 where there are none
+unfoldable pub latestLargest : (ℕ → ℤ) → ℕ → ℕ
+latestLargest sums zero = 0
+latestLargest sums (suc n) = cond (leZ (sums (latestLargest sums n)) (sums n)) n (latestLargest sums n)
+
+-- Document 02, note 1: "CIGRE asks for the time of highest temperature, so the reference hour becomes the one with the largest rounded-up heating sum of all 24."
+-- Document 01: "the latest such hour where several are equal"
+abbrev pub referenceHour : (ℕ → Bounds) → List ℕ → ℕ
+referenceHour pairs hours = latestLargest (heatingSum pairs hours) dayHours

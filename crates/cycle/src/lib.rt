@@ -1,13 +1,13 @@
-// The cyclic rating factor of a cable: document 01, 'The daily cycle'.
+// The cyclic rating factor of a cable: document 01, 'The daily cycle', with the reference hour of document 02, note 1, 'The hottest hour'.
 ghost use mathlib.Core.Path.{_≡_};
 ghost use Prim.Native.Nat.{_+_, _*_, _≤_, _<_};
 ghost use Rattle.bounds.specs.Operations.{pointB};
 ghost use Rattle.bounds.specs.Promises.{Sized};
-ghost use Rattle.cycle.specs.Day.{dayHours, latestHighest, squaredLoads};
-ghost use Rattle.cycle.specs.Heating.{heatingHours, commonDivisor, relativeLoad, gatheredLoad, heatingSum};
+ghost use Rattle.cycle.specs.Day.{dayHours, highestLoad, squaredLoads};
+ghost use Rattle.cycle.specs.Heating.{heatingHours, relativeLoad, gatheredLoad, heatingBounds, heatingSum, referenceHour};
 ghost use Rattle.cycle.specs.Factor.{mostFactor, allowed, largestFactor};
 ghost use Rattle.cycle.specs.Answer.{firstAbove, hourPair, FactorSaid};
-ghost use Rattle.cycle.specs.Asked.{Ready, mostDivisor, mostSum};
+ghost use Rattle.cycle.specs.Asked.{Ready, Shared, AtHour, DivisorOf, pairsOf, mostDivisor, mostSum};
 ghost use Rattle.cycle.specs.declared.FactorAnswer.the-variants.{Factor};
 use bounds::Bounds;
 use cable::Cable;
@@ -35,7 +35,8 @@ const MOST_FACTOR: u32 = 5000;
 const MOST_HEATING: i64 = 1000000000000;
 
 // By how many thousandths a cable's rated current may be multiplied where the load goes through `hours` each day: the largest whole m, at most 5,000,
-// with m² times the heating sum at most 10^12.
+// with m² times the heating sum at most 10^12, at the hour of the day at which that sum is largest. With T the largest of the 24 exact sums, in
+// millionths, m²·T is at most 10^12; and if m is below 5,000, each larger whole number, squared and times T + 301, is above 10^12.
 pub fn factor(cable: Cable, hours: [u16; 24]) -> FactorAnswer
     ensures { λ r. ⌜ FactorSaid cable hours r ⌝ }
 {
@@ -50,31 +51,65 @@ pub fn factor(cable: Cable, hours: [u16; 24]) -> FactorAnswer
             place: Place::Hour(above as u8),
         });
     }
-    let hour = latest_highest(hours);
-    if hours[hour] == 0 {
+    if highest_load(hours) == 0 {
         return FactorAnswer::Refused(Refusal {
             number: 11,
             place: Place::None,
         });
     }
-    factor_at(accepted, hours, hour)
+    factor_of_day(accepted, hours)
 }
 
-// The factor for a reference hour. What multiplies each share is gathered first; the sum is divided, and so rounded, once.
-fn factor_at(cable: Cable, hours: [u16; 24], hour: usize) -> FactorAnswer
-    requires { ⌜ Ready cable hours hour ⌝ }
-    ensures { λ r. ⌜ r ≡ Factor (largestFactor (heatingSum (hourPair cable) hours hour)) ⌝ }
+// The factor of a day. The six shares are worked out once for all 24 hours.
+fn factor_of_day(cable: Cable, hours: [u16; 24]) -> FactorAnswer
+    requires { ⌜ Ready cable hours ⌝ }
+    ensures { λ r. ⌜ r ≡ Factor (largestFactor (heatingSum (hourPair cable) hours (referenceHour (hourPair cable) hours))) ⌝ }
 {
-    let divisor = common_divisor(hours);
-    let mut sum = Bounds::whole(relative_load(hours, hour, HEATING_HOURS) * MILLION);
+    let none = Bounds::whole(0);
+    let mut shares = [none; 6];
     for i in 0..HEATING_HOURS {
         let answer = share::share(cable, 60 * (i as u32 + 1));
         let ShareAnswer::Pair(pair) = answer else {
             return FactorAnswer::Refused(share::refusal_of(answer));
         };
-        sum = sum.add(gathered_load(hours, hour, i).mul(pair));
+        shares[i] = pair;
     }
-    FactorAnswer::Factor(largest_factor(sum.divided(divisor)))
+    FactorAnswer::Factor(largest_factor(largest_sum(shares, hours)))
+}
+
+// The heating sum of the hottest hour: the one at which it is largest. The mean and the divisor are those of all 24 hours.
+fn largest_sum(shares: [Bounds; 6], hours: [u16; 24]) -> Bounds
+    requires { ⌜ Shared shares hours ⌝ }
+    ensures { λ r. ⌜ (r ≡ heatingBounds (pairsOf shares) hours (referenceHour (pairsOf shares) hours)) × (Sized mostSum r) ⌝ }
+{
+    let mean = squared_loads(hours);
+    let divisor = common_divisor(hours);
+    let mut largest = heating_sum(shares, hours, 0, mean, divisor);
+    for hour in 1..DAY_HOURS {
+        let sum = heating_sum(shares, hours, hour, mean, divisor);
+        if largest.high <= sum.high {
+            largest = sum;
+        }
+    }
+    largest
+}
+
+// The heating sum for a reference hour. What multiplies each share is gathered first; the sum is divided, and so rounded, once.
+fn heating_sum(
+    shares: [Bounds; 6],
+    hours: [u16; 24],
+    hour: usize,
+    mean: u64,
+    divisor: u64,
+) -> Bounds
+    requires { ⌜ (Shared shares hours) × (AtHour hours hour mean) × (DivisorOf hours divisor) ⌝ }
+    ensures { λ r. ⌜ (r ≡ heatingBounds (pairsOf shares) hours hour) × (Sized mostSum r) ⌝ }
+{
+    let mut sum = Bounds::whole(mean * MILLION);
+    for i in 0..HEATING_HOURS {
+        sum = sum.add(gathered_load(hours, hour, i, mean).mul(shares[i]));
+    }
+    sum.divided(divisor)
 }
 
 // The first hour above 4,000 A, or 24.
@@ -91,40 +126,38 @@ fn first_above(hours: [u16; 24]) -> usize
     k
 }
 
-fn latest_highest(hours: [u16; 24]) -> usize
-    ensures { λ r. ⌜ (r ≡ latestHighest hours dayHours) × (r < dayHours) ⌝ }
+fn highest_load(hours: [u16; 24]) -> u16
+    ensures { λ r. ⌜ r ≡ highestLoad hours ⌝ }
 {
-    let mut best: usize = 0;
-    let mut k: usize = 0;
-    while k < DAY_HOURS {
-        if hours[best] <= hours[k] {
-            best = k;
+    let mut highest: u16 = 0;
+    for k in 0..DAY_HOURS {
+        if highest < hours[k] {
+            highest = hours[k];
         }
-        k += 1;
     }
-    best
+    highest
 }
 
 // What multiplies G(i + 1).
-fn gathered_load(hours: [u16; 24], hour: usize, i: usize) -> Bounds
-    requires { ⌜ (hour < dayHours) × (i < heatingHours) ⌝ }
+fn gathered_load(hours: [u16; 24], hour: usize, i: usize, mean: u64) -> Bounds
+    requires { ⌜ (AtHour hours hour mean) × (i < heatingHours) ⌝ }
     ensures { λ r. ⌜ r ≡ pointB (gatheredLoad hours hour i) ⌝ }
 {
-    let here = Bounds::whole(relative_load(hours, hour, i));
-    let before = Bounds::whole(relative_load(hours, hour, i + 1));
+    let here = Bounds::whole(relative_load(hours, hour, i, mean));
+    let before = Bounds::whole(relative_load(hours, hour, i + 1, mean));
     here.add(before.neg())
 }
 
 // The load i hours before an hour, squared, for i below 6, and at 6 the mean, times 24 each.
-fn relative_load(hours: [u16; 24], hour: usize, i: usize) -> u64
-    requires { ⌜ (hour < dayHours) × (i ≤ heatingHours) ⌝ }
+fn relative_load(hours: [u16; 24], hour: usize, i: usize, mean: u64) -> u64
+    requires { ⌜ (AtHour hours hour mean) × (i ≤ heatingHours) ⌝ }
     ensures { λ r. ⌜ (r ≡ relativeLoad hours hour i) × (r ≤ mostDivisor) ⌝ }
 {
     if i < HEATING_HOURS {
         let at = (hour + DAY_HOURS - i) % DAY_HOURS;
         24 * square(hours[at])
     } else {
-        squared_loads(hours)
+        mean
     }
 }
 
@@ -139,10 +172,9 @@ fn squared_loads(hours: [u16; 24]) -> u64
 }
 
 fn common_divisor(hours: [u16; 24]) -> u64
-    ensures { λ r. ⌜ (r ≡ commonDivisor hours) × (r ≤ mostDivisor) ⌝ }
+    ensures { λ r. ⌜ DivisorOf hours r ⌝ }
 {
-    let highest = latest_highest(hours);
-    24 * square(hours[highest])
+    24 * square(highest_load(hours))
 }
 
 fn square(x: u16) -> u64

@@ -1,6 +1,7 @@
 // Runs the rows for the factor and the emergency current of the reference values, which a second program computed from document 01's formulas with
 // 60 digits, and says of each whether the answer lies in the range that the reference gives. A row whose range is false on purpose follows on
-// each side of a row of either kind.
+// each side of a row of either kind. The rows `evening` and `night`, days of document 02's note 1, were worked out to 60 digits from the same
+// formulas; with them, and with F07, stands a false row that has the factor of the hour of the highest load.
 use cable::Cable;
 use cycle::FactorAnswer;
 use emergency::CurrentAnswer;
@@ -31,6 +32,16 @@ fn plateau() -> [u16; 24] {
 // 50 A, 310 A in hour 8, 300 A from hour 14 to 21.
 fn morning_peak() -> [u16; 24] {
     with_hours(with_hours([50; 24], 8, 8, 310), 14, 21, 300)
+}
+
+// 200 A, 400 A in hour 7, 390 A from hour 17 to 22.
+fn evening_day() -> [u16; 24] {
+    with_hours(with_hours([200; 24], 7, 7, 400), 17, 22, 390)
+}
+
+// 400 A from hour 21 to hour 2, nothing else.
+fn night_day() -> [u16; 24] {
+    with_hours(with_hours([0; 24], 21, 23, 400), 0, 2, 400)
 }
 
 // Cable A of document 01, with a rated current.
@@ -108,7 +119,7 @@ fn current_row(name: &[u8], cable: Cable, h: u32, r: u32, minutes: u32, range: R
     print_place(i, range);
 }
 
-fn main() {
+fn factor_rows() {
     factor_row(b"F01", cable_a(400), [200; 24], one(1000));
     factor_row(b"F01 false below", cable_a(400), [200; 24], one(999));
     factor_row(b"F01 false above", cable_a(400), [200; 24], one(1001));
@@ -119,13 +130,36 @@ fn main() {
         one(1675),
     );
     factor_row(b"F05", cable_a(400), plateau(), one(1096));
-    factor_row(b"F07", cable_a(400), morning_peak(), one(1428));
+    factor_row(b"F07", cable_a(400), morning_peak(), one(1180));
+    factor_row(
+        b"F07 false, the peak's",
+        cable_a(400),
+        morning_peak(),
+        one(1428),
+    );
     factor_row(
         b"F09",
         cable_f09(),
         with_hours([10; 24], 0, 1, 4000),
         one(2048),
     );
+    factor_row(b"evening", cable_a(400), evening_day(), one(1147));
+    factor_row(
+        b"evening false, the peak's",
+        cable_a(400),
+        evening_day(),
+        one(1307),
+    );
+    factor_row(b"night", cable_a(400), night_day(), one(1186));
+    factor_row(
+        b"night false, hour 23's",
+        cable_a(400),
+        night_day(),
+        one(1292),
+    );
+}
+
+fn current_rows() {
     current_row(b"E01", cable_a(400), 100, 100, 60, one(400));
     current_row(b"E03", cable_a(401), 50, 25, 60, one(200));
     current_row(b"E05", cable_a(400), 75, 120, 30, one(710));
@@ -133,4 +167,9 @@ fn main() {
     current_row(b"E05 false above", cable_a(400), 75, 120, 30, one(711));
     current_row(b"E07", cable_a(400), 75, 120, 2880, one(467));
     current_row(b"E09", cable_e09(), 80, 110, 120, one(709));
+}
+
+fn main() {
+    factor_rows();
+    current_rows();
 }

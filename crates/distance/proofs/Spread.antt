@@ -192,6 +192,9 @@ least-above k h = record { least = λ n t. trans≼ₛ (h .least n t) (ofInt≼ 
 pub most-add : (a z : ℤ) {x : Value} → AtMost (ofInt a) x → AtMost (ofInt (a +ℤ z)) (x +ᵥ integer z)
 most-add a z {x} h = record { most = λ n t. trans≼ₛ (ofInt-add a z .to) (add≼ₛ (h .most n (and-0 (x .ok n) (integer z .ok n) t)) (refl≼ₛ (ofInt z))) }
 
+pub least-add : (a z : ℤ) {x : Value} → AtLeast (ofInt a) x → AtLeast (ofInt (a +ℤ z)) (x +ᵥ integer z)
+least-add a z {x} h = record { least = λ n t. trans≼ₛ (add≼ₛ (h .least n (and-0 (x .ok n) (integer z .ok n) t)) (refl≼ₛ (ofInt z))) (ofInt-add a z .from) }
+
 module _ (n : ℕ) where
   not-below : ofInt (pos n) .minus ≼ ofInt (pos n) .plus
   not-below = record { cross = omega arith }

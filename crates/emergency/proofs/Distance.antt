@@ -5,12 +5,11 @@ use Prim.Native.Nat.{ℕ, zero, suc, _+_, _*_, _-_, _≤_, _<_}
 use native.Mathlib.Nat.{mul-le-mul, mul-le-mul-left, mul-le-mul-right}
 use native.Mathlib.Omega.{arith}
 use lib.IntN.{ℤ, pos, negsuc, negℤ, sucℤ, _+ℤ_, _-ℤ_, _*ℤ_}
-use borrow.Author.Tests.{leb-false}
-use lib.Signed.{_≤ℤ_, _<ℤ_, leZ}
+use lib.Signed.{_≤ℤ_, leZ}
 use Rattle.numbers.specs.Signed.{ofInt}
 use Rattle.numbers.specs.Integer.{up, dn}
 use Rattle.numbers.specs.Largest.{Largest}
-use Rattle.numbers.proofs.Integers.{le-lin, lin-le, lin-eq, lt-lin, lin-lt, add-lin, suc-lin, mul-lin, neg-up, neg-dn, ≤ℤ-trans, lesser-both, greater-both, *ℤ-mono-pos}
+use Rattle.numbers.proofs.Integers.{le-lin, lin-le, lin-eq, lt-lin, add-lin, suc-lin, mul-lin, neg-up, neg-dn, leZ-false, ≤ℤ-trans, lesser-both, greater-both, *ℤ-mono-pos}
 use Rattle.numbers.proofs.Largest.{is-largest}
 use Rattle.numbers.proofs.SignedFractions.{refl≼ₛ, trans≼ₛ}
 use Rattle.numbers.proofs.SignedIntegers.{ofInt≼}
@@ -44,13 +43,7 @@ rises-by x y g h = lin-le (pos x *ℤ pos g) (pos y *ℤ pos g) (omega (arith, m
 
 -- what is not at most is at least one more
 failed : (y z : ℤ) → leZ y z ≡ false → sucℤ z ≤ℤ y
-failed y z e = lin-le (sucℤ z) y (omega (arith, suc-lin z, lt-lin (above-it y z e)))
-  where
-    above-it : (y z : ℤ) → leZ y z ≡ false → z <ℤ y
-    above-it (pos a) (pos b) e = lin-lt (pos b) (pos a) (omega (arith, leb-false a b e))
-    above-it (pos a) (negsuc b) e = lin-lt (negsuc b) (pos a) (omega arith)
-    above-it (negsuc a) (pos b) e = let z : _≡_ {A = ℕ} 0 1 = cc in absurd (omega arith)
-    above-it (negsuc a) (negsuc b) e = lin-lt (negsuc b) (negsuc a) (omega (arith, leb-false b a e))
+failed y z e = lin-le (sucℤ z) y (omega (arith, suc-lin z, lt-lin (leZ-false y z e)))
 
 module _ (W rated h r : ℕ) (share : Value) (sound : share ⊴ share) (b : Bounds) (p : Promised W share b) (cool : h * h ≤ 100 * r) where
   around : Around b share

@@ -19,3 +19,4 @@ pub mod Share
 pub mod ShareRange
 pub mod SignedShare
 pub mod Pairs
+pub mod Largest

@@ -129,7 +129,10 @@ module _ (c : CableNumbers) (m : ℕ) (a : Accepted c m) where
       go : 0F ≺ millionths v → 1 ≤ v
       go k = omega (arith, k .cross)
 
-  -- 1 is at least G, and what is at least ln r is at least J
+  -- 0 is at most G, 1 is at least G, and what is at least ln r is at least J
+  pub zero-at-most : AtMost (ofFrac 0F) (share c m)
+  zero-at-most = record { most = λ n t. trans≼ₛ (ofFrac≼ (zero≼ (shareP c m .high n))) (share-plain c m a .highs n t .from) }
+
   pub one-at-least : AtLeast (ofFrac 1F) (share c m)
   one-at-least = record { least = λ n t. go n t }
     where

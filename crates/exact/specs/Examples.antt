@@ -1,6 +1,6 @@
 -- Worked examples of the definitions, each by computation. The values on the right were worked out apart from these definitions, with exact
 -- fractions, from document 01, 'Exact values without reals' and 'The attained share'.
-use Prim.Native.Nat.{ℕ}
+use Prim.Native.Nat.{ℕ, _+_, _*_}
 use mathlib.Core.Bool.{true, false}
 use mathlib.Core.Path.{_≡_, refl}
 use lib.Dec.{T, leb→le}
@@ -8,7 +8,7 @@ use Rattle.numbers.specs.Fraction.{Frac, _≈_, _≼?_, _per_, whole, 0F, 1F, _
 use Rattle.numbers.specs.Signed.{Signed, _≈ₛ_, _≼ₛ?_, ofFrac, negS, minS, maxS}
 use Rattle.exact.specs.Exponential.{expLow, expHigh}
 use Rattle.exact.specs.Cutting.{integralLow, integralHigh, lnLow, lnHigh}
-use Rattle.exact.specs.Value.{Value, number, integral, ln, _+ᵥ_, _−ᵥ_, _·ᵥ_, reciprocal, _/ᵥ_}
+use Rattle.exact.specs.Value.{Value, number, integral, ln, _+ᵥ_, _−ᵥ_, _·ᵥ_, reciprocal, _/ᵥ_, _⊔ᵥ_, largestᵥ}
 use Rattle.exact.specs.Share.{CableNumbers, exponent, nearEnd, farEnd, ratio, attainment, beta, share}
 
 same : (a b : Frac) → T (a ≼? b) → T (b ≼? a) → a ≈ b
@@ -108,6 +108,16 @@ reciprocal-of = record { low-is = sameₛ _ _ tt tt; high-is = sameₛ _ _ tt tt
 quotient-of : Ends (within (plus 1) (plus 2) /ᵥ within (plus 4) (plus 8)) 1 (ofFrac (1 per 8)) (ofFrac (1 per 2))
 unfolding minS maxS _∸_
 quotient-of = record { low-is = sameₛ _ _ tt tt; high-is = sameₛ _ _ tt tt }
+
+-- the lower fraction of the one and the upper one of the other
+larger-of-two : Ends (within (minus 1) (plus 7) ⊔ᵥ within (plus 3) (plus 5)) 1 (plus 3) (plus 7)
+unfolding maxS
+larger-of-two = record { low-is = sameₛ _ _ tt tt; high-is = sameₛ _ _ tt tt }
+
+-- of 0 to 1, 2 to 3 and 4 to 5
+largest-of-three : Ends (largestᵥ (λ (i : ℕ). within (plus (2 * i)) (plus (2 * i + 1))) 3) 1 (plus 4) (plus 5)
+unfolding largestᵥ maxS
+largest-of-three = record { low-is = sameₛ _ _ tt tt; high-is = sameₛ _ _ tt tt }
 
 -- an order at which the divisor's lower fraction is not above 0 gives no bounds; one at which it is does
 no-bounds-at-zero : (number 1F /ᵥ within (plus 0) (plus 1)) .ok 1 ≡ false

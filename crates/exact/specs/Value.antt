@@ -5,7 +5,7 @@ use mathlib.Core.Bool.{Bool, true, false}
 use lib.Dec.{T, leb}
 use Rattle.numbers.specs.Fraction.{Frac, whole, 1F, _÷_, _∸_}
 use lib.IntN.{ℤ}
-use Rattle.numbers.specs.Signed.{Signed, _≼ₛ_, ofFrac, ofInt, amount, negS, addS, least4, most4}
+use Rattle.numbers.specs.Signed.{Signed, _≼ₛ_, ofFrac, ofInt, amount, negS, addS, maxS, least4, most4}
 use Rattle.exact.specs.Exponential.{expLow, expHigh}
 use Rattle.exact.specs.Cutting.{integralHigh, integralLow, lnHigh, lnLow}
 
@@ -103,3 +103,13 @@ x /ᵥ y = x ·ᵥ reciprocal y
 -- a value in millionths
 abbrev pub inMillionths : Value → Value
 inMillionths x = number (whole 1000000) ·ᵥ x
+
+-- the larger of two values: the larger of the lower and the larger of the upper fractions
+infixl 6 _⊔ᵥ_
+abbrev pub _⊔ᵥ_ : Value → Value → Value
+x ⊔ᵥ y = record { ok = λ n. and (x .ok n) (y .ok n); low = λ n. maxS (x .low n) (y .low n); high = λ n. maxS (x .high n) (y .high n) }
+
+-- the largest of f 0 to f (n − 1), and f 0 where n is 0: document 02, note 1, speaks of "the largest exact sum"
+unfoldable pub largestᵥ : (ℕ → Value) → ℕ → Value
+largestᵥ f zero = f 0
+largestᵥ f (suc n) = largestᵥ f n ⊔ᵥ f n

@@ -9,7 +9,7 @@ use native.Mathlib.Nat.{lt-of-mul-lt-mul-right, mul-le-mul-left, mul-add, add-mu
 use lib.Dec.{T, ltb, leb→le, le→leb, ltb→lt, lt→ltb}
 use lib.IntN.{ℤ, pos, negsuc, negℤ, natAbs, subℕ, sucℤ, _+ℤ_, _-ℤ_, _*ℤ_, *ℤ-comm}
 use lib.Signed.{_≤ℤ_, _<ℤ_, leZ, ltZ, ≤ℤ-refl}
-use borrow.Author.Tests.{ltb-true, ltb-false}
+use borrow.Author.Tests.{ltb-true, ltb-false, leb-false}
 use Rattle.numbers.specs.Integer.{up, dn, lesser, greater}
 
 -- ---- differences of natural numbers
@@ -142,6 +142,16 @@ negℤ-*ℤ a b =
     (omega (arith, rw (neg-up a, neg-dn a) at (mul-lin (negℤ a) b), mul-lin a b, neg-up (a *ℤ b), neg-dn (a *ℤ b)))
 
 -- ---- the order
+
+-- a test that holds, and one that does not
+pub leZ-true : {a b : ℤ} → leZ a b ≡ true → a ≤ℤ b
+leZ-true e = record { le = rw e tt }
+
+pub leZ-false : (a b : ℤ) → leZ a b ≡ false → b <ℤ a
+leZ-false (pos a) (pos b) e = lin-lt (pos b) (pos a) (omega (arith, leb-false a b e))
+leZ-false (pos a) (negsuc b) e = lin-lt (negsuc b) (pos a) (omega arith)
+leZ-false (negsuc a) (pos b) e = let z : _≡_ {A = ℕ} 0 1 = cc in absurd (omega arith)
+leZ-false (negsuc a) (negsuc b) e = lin-lt (negsuc b) (negsuc a) (omega (arith, leb-false b a e))
 
 pub ≤ℤ-trans : {a b c : ℤ} → a ≤ℤ b → b ≤ℤ c → a ≤ℤ c
 ≤ℤ-trans {a} {b} {c} h k = lin-le a c (omega (arith, le-lin h, le-lin k))

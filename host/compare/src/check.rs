@@ -1,6 +1,6 @@
 //! Asking the library one question and judging its answer.
 
-use crate::distance::{require, Held, MOST_AMPERES, MOST_FACTOR};
+use crate::distance::{require, Held, MOST_AMPERES};
 use crate::input::Input;
 use crate::judge;
 use kechmowad::Refusal;
@@ -16,12 +16,23 @@ pub struct Verdict {
     pub held: Held,
 }
 
-/// Results that a long run must not lack, for each of the calculations that it asks.
-pub const SPECIAL: [&str; 4] = ["low 0", "low below 0", "the cap", "the cap"];
+/// Results that a long run must not lack, for each of the calculations that it asks. No
+/// day meets the factor's cap: the mean of its 24 heating sums is μ, 1/24 or more, so that
+/// the largest gives 4,898 at most.
+pub const SPECIAL: [&str; 4] = [
+    "low 0",
+    "low below 0",
+    "the hottest hour below the highest load",
+    "the cap",
+];
 
 impl Verdict {
     /// The verdict on an answer.
-    pub fn new<T>(said: Result<T, Refusal>, special: fn(T) -> bool, held: Held) -> Verdict {
+    pub fn new<T>(
+        said: Result<T, Refusal>,
+        special: impl FnOnce(T) -> bool,
+        held: Held,
+    ) -> Verdict {
         let refused = said.as_ref().err().map(|refusal| refusal.number());
         Verdict {
             refused,
@@ -47,7 +58,7 @@ pub fn check(input: &Input) -> Verdict {
         Input::Factor { cable, hours } => {
             let said = kechmowad::factor(cable, hours);
             let held = judge::factor(cable, hours, said);
-            Verdict::new(said, |m| m == MOST_FACTOR, held)
+            Verdict::new(said, |_| judge::hottest_elsewhere(cable, hours), held)
         }
         Input::Current {
             cable,

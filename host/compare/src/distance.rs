@@ -1,7 +1,9 @@
 //! Document 01's 'What the distances say', of a result and the second program's value.
+//! Document 02, note 1: 'The factor rule now speaks of the largest exact sum, at the same
+//! distance.'
 //!
 //! The second program works in f64. Its README found it within 4e-10 millionths of the
-//! exact share, 6e-10 of the exact heating sum and 6e-6 of the exact rise, on 105,000
+//! exact share, 5e-10 of the exact heating sum and 6e-6 of the exact rise, on 105,000
 //! inputs against 50 digits. The allowances below leave it more than ten times that, and
 //! are far below one millionth, the step of the results.
 
@@ -78,7 +80,7 @@ pub fn rise(pair: Bounds, exact: f64, rated: u32, changes: u64) -> Held {
     encloses(pair, exact, RISE_ALLOWANCE)
 }
 
-/// The factor's distance; `sum` is T.
+/// The factor's distance; `sum` is T, the largest of the 24 exact heating sums.
 pub fn factor(m: u32, sum: f64) -> Held {
     let squared = |m: u32| f64::from(m) * f64::from(m);
     let slack = f64::from(HEATING_SLACK);
@@ -144,9 +146,13 @@ mod tests {
         // 1,000 and C4's 999 keep it, their neighbours do not.
         let held = [998, 999, 1_000, 1_001].map(|m| factor(m, 1e6).is_ok());
         assert_eq!(held, [false, true, true, false]);
-        // The exact factor is above the cap.
+        // The exact factor is above the cap. No day has so small a sum, yet the rule has it.
         let held = [4_998, 4_999, 5_000, 5_001].map(|m| factor(m, 38_600.0).is_ok());
         assert_eq!(held, [false, false, true, false]);
+        // Row F07 of data/reference.tsv: its largest sum, and the factor of its highest
+        // load's hour, 1,428.
+        let held = [1_179, 1_180, 1_181, 1_428].map(|m| factor(m, 717_826.517_434).is_ok());
+        assert_eq!(held, [false, true, false, false]);
     }
 
     #[test]

@@ -1,6 +1,6 @@
 //! One question to both programs, and how it is written down for a reader.
 
-use crate::numbers::{any_cable, any_emergency, any_hours, any_minutes, capped_day};
+use crate::numbers::{any_cable, any_emergency, any_hours, any_minutes, late_day};
 use crate::random::Random;
 use crate::sheets::any_sheet;
 use kechmowad::Cable;
@@ -60,9 +60,10 @@ impl Input {
         }
     }
 
-    fn any_factor(random: &mut Random) -> Input {
+    /// A cable and a day of any kind.
+    pub fn any_factor(random: &mut Random) -> Input {
         let (cable, hours) = if random.once_in(20) {
-            capped_day(random)
+            late_day(random)
         } else {
             (any_cable(random), any_hours(random))
         };

@@ -80,6 +80,13 @@ pub fn factor(cable: &Cable, hours: &[u16; 24], said: Result<u32, Refusal>) -> H
     })
 }
 
+/// Whether an accepted day is hottest at an hour of less than the highest load. Document 02,
+/// note 1: 'The conductor is hottest at the end of the plateau.'
+pub fn hottest_elsewhere(cable: &Cable, hours: &[u16; 24]) -> bool {
+    let highest = *hours.iter().max().expect("24 hours");
+    second::factor(&theirs(cable), hours).is_ok_and(|exact| hours[exact.reference_hour] < highest)
+}
+
 /// Judges an emergency current.
 pub fn current(cable: &Cable, h: u32, r: u32, minutes: u32, said: Result<u32, Refusal>) -> Held {
     let second = second::current(&theirs(cable), h, r, minutes);

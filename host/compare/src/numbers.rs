@@ -100,9 +100,9 @@ pub fn any_minutes(random: &mut Random) -> u32 {
     }
 }
 
-/// A cable so thick, shallow and slow to warm that one hour of load meets the cap of
-/// 5,000 on the factor, and such a day.
-pub fn capped_day(random: &mut Random) -> (Cable, [u16; 24]) {
+/// A cable so thick and shallow that its one hour of load heats the conductor most some
+/// hours later, and such a day. Its factor is among the largest.
+pub fn late_day(random: &mut Random) -> (Cable, [u16; 24]) {
     let cable = Cable::from([1_500, 300, 100, 1_000_000, 0, 100_000, 100_000, 400]);
     (cable, one_hour(random))
 }
@@ -113,9 +113,36 @@ fn one_hour(random: &mut Random) -> [u16; 24] {
     hours
 }
 
-/// A day: even, with one hour of load, with several highest hours, or any; now and then
-/// all zero or with an hour above 4,000.
-pub fn any_hours(random: &mut Random) -> [u16; 24] {
+/// Lengths of a plateau and of a peak, in hours. At least an hour parts them on each side.
+const PLATEAU_HOURS: (u32, u32) = (3, 12);
+const PEAK_HOURS: (u32, u32) = (1, 2);
+/// The peak, in amperes, and how much of it a plateau may be lower: a tenth or less.
+const PEAK: (u32, u32) = (10, 4_000);
+const LOWER_BY: u32 = 10;
+
+/// A plateau and, elsewhere, a short and slightly higher peak. Document 02, note 1: 'The
+/// conductor is hottest at the end of the plateau', as it is on most of these days.
+fn plateau_and_peak(random: &mut Random) -> [u16; 24] {
+    let peak = inside(random, PEAK);
+    let lowest = random.from_to(peak - peak / LOWER_BY, peak - 1);
+    // Even, or each hour for itself.
+    let highest = random.one_of(&[lowest, peak - 1]);
+    let rest = random.from_to(0, lowest / 2);
+    let mut hours = [0; 24].map(|_| random.from_to(0, rest) as u16);
+    let long = random.from_to(PLATEAU_HOURS.0, PLATEAU_HOURS.1) as usize;
+    let short = random.from_to(PEAK_HOURS.0, PEAK_HOURS.1) as usize;
+    let between = 1 + random.below(23 - long - short);
+    // The plateau begins at hour 0, until the day is turned round the clock.
+    for hour in &mut hours[..long] {
+        *hour = random.from_to(lowest, highest) as u16;
+    }
+    hours[long + between..][..short].fill(peak as u16);
+    hours.rotate_right(random.below(24));
+    hours
+}
+
+/// Even, with one hour of load, with several highest hours, all zero or any.
+fn any_shape(random: &mut Random) -> [u16; 24] {
     let highest = inside(random, (1, 4_000));
     let mut hours = match random.below(12) {
         0 => [0; 24],
@@ -128,6 +155,17 @@ pub fn any_hours(random: &mut Random) -> [u16; 24] {
             hours[random.below(24)] = highest as u16;
         }
     }
+    hours
+}
+
+/// A day: one of three with a plateau and a peak, the others of any shape; now and then
+/// with an hour above 4,000.
+pub fn any_hours(random: &mut Random) -> [u16; 24] {
+    let mut hours = if random.once_in(3) {
+        plateau_and_peak(random)
+    } else {
+        any_shape(random)
+    };
     if random.once_in(10) {
         let above = random.from_to(4_002, 65_535) as u16;
         hours[random.below(24)] = random.one_of(&[4_000, 4_001, 4_001, u16::MAX, above]);

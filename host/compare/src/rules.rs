@@ -1,6 +1,6 @@
-//! What document 01's rules give from the library's own shares. The pairs of the share
-//! are left open inside their 50 millionths; rise, factor and current follow from them
-//! to the last digit.
+//! What the rules of document 01, and of document 02's note 1, give from the library's own
+//! shares. The pairs of the share are left open inside their 50 millionths; rise, factor
+//! and current follow from them to the last digit.
 
 use crate::distance::{require, Held, MOST_AMPERES, MOST_FACTOR};
 use crate::emergency::Emergency;
@@ -36,14 +36,14 @@ pub fn rise(history: &History, said: Bounds) -> Held {
     )
 }
 
-/// The rounded heating sum of an accepted cycle in millionths, gathered.
-fn heating_sum(cable: &Cable, hours: &[u16; 24]) -> i128 {
-    let squares = hours.map(|amperes| i128::from(amperes) * i128::from(amperes));
-    let highest = *squares.iter().max().expect("24 hours");
-    let reference = squares.iter().rposition(|&square| square == highest);
-    // Yi and μ, times 24·highest.
-    let y = |i: usize| 24 * squares[(reference.expect("it is there") + 24 - i) % 24];
+/// The heating sum with that hour as the reference, in millionths: gathered, each share
+/// taken high or low by the sign of what multiplies it, and rounded up. Shares are those
+/// after 1 to 6 hours.
+fn heating_sum(squares: &[i128; 24], shares: &[Bounds; 6], reference: usize) -> i128 {
+    // Yi and μ, times 24 and the squared highest load of the day.
+    let y = |i: usize| 24 * squares[(reference + 24 - i) % 24];
     let mean: i128 = squares.iter().sum();
+    let highest = *squares.iter().max().expect("24 hours");
     let weights = [
         y(0) - y(1),
         y(1) - y(2),
@@ -53,20 +53,28 @@ fn heating_sum(cable: &Cable, hours: &[u16; 24]) -> i128 {
         y(5) - mean,
     ];
     let mut sum = mean * 1_000_000;
-    for (weight, hour) in weights.into_iter().zip(1..) {
-        let pair = own_share(cable, 60 * hour);
+    for (weight, pair) in weights.into_iter().zip(shares) {
         sum += weight * i128::from(if weight > 0 { pair.high } else { pair.low });
     }
     divided_up(sum, 24 * highest)
 }
 
+/// The sum that decides the factor of an accepted cycle. Document 02, note 1: 'the
+/// reference hour becomes the one with the largest rounded-up heating sum of all 24'.
+fn largest_sum(cable: &Cable, hours: &[u16; 24]) -> i128 {
+    let squares = hours.map(|amperes| i128::from(amperes) * i128::from(amperes));
+    let shares = [1, 2, 3, 4, 5, 6].map(|hour| own_share(cable, 60 * hour));
+    let sums = (0..24).map(|reference| heating_sum(&squares, &shares, reference));
+    sums.max().expect("24 hours")
+}
+
 /// The factor of an accepted cycle is that of the rules.
 pub fn factor(cable: &Cable, hours: &[u16; 24], said: u32) -> Held {
-    let sum = heating_sum(cable, hours);
+    let sum = largest_sum(cable, hours);
     let fits = |m: u32| i128::from(m) * i128::from(m) * sum <= 1_000_000_000_000;
     require(
         fits(said) && (said == MOST_FACTOR || !fits(said + 1)),
-        &format!("the largest factor for the sum {sum} from the library's own shares"),
+        &format!("the largest factor for the largest sum {sum} from the library's own shares"),
     )
 }
 

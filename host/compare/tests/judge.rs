@@ -86,6 +86,38 @@ fn a_factor_beside_the_right_one() {
     );
 }
 
+/// A day with these loads at some hours and another load at the rest.
+fn day(rest: u16, loads: &[(u16, &[usize])]) -> [u16; 24] {
+    let mut hours = [rest; 24];
+    for &(amperes, at) in loads {
+        at.iter().for_each(|&hour| hours[hour] = amperes);
+    }
+    hours
+}
+
+#[test]
+fn a_factor_by_another_hour_or_another_highest_load() {
+    // Document 02, note 1: 'the reference hour becomes the one with the largest rounded-up
+    // heating sum of all 24'. Worked out to 60 digits with mpmath; 1,180 and 1,428 stand in
+    // row F07 of data/reference.tsv too. After the right factor come false ones: by the hour
+    // of the highest load, by the last hour before the hottest, and, where it differs, with
+    // loads over that of the hottest hour.
+    let evening = day(200, &[(400, &[7]), (390, &[17, 18, 19, 20, 21, 22])]);
+    let midnight = day(0, &[(300, &[21, 22, 23, 0, 1, 2])]);
+    let f07 = day(50, &[(310, &[8]), (300, &[14, 15, 16, 17, 18, 19, 20, 21])]);
+    let rows: [([u16; 24], u32, &[u32]); 3] = [
+        (evening, 1_147, &[1_307, 1_162, 1_118]),
+        (midnight, 1_186, &[1_292, 1_210]),
+        (f07, 1_180, &[1_428, 1_201, 1_142]),
+    ];
+    for (hours, right, others) in rows {
+        let judged = |said| judge::factor(&cable_a(), &hours, said);
+        let beside = [right - 1, right + 1];
+        let wrong: Vec<_> = others.iter().chain(&beside).map(|&m| Ok(m)).collect();
+        only(judged, Ok(right), &wrong);
+    }
+}
+
 #[test]
 fn a_current_beside_the_right_one() {
     // The limit is met as it is: C5 and C6.

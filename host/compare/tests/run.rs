@@ -1,7 +1,7 @@
 //! A run: the same inputs for the same seed, and what it says where an answer disagrees.
 
 use compare::{check, program, Input, Random, Run};
-use kechmowad::{Bounds, Condition, Place, Refusal};
+use kechmowad::{Bounds, Cable, Condition, Place, Refusal};
 
 #[test]
 fn a_seed_stands_for_its_inputs() {
@@ -60,6 +60,22 @@ fn a_refusal_that_never_came_is_missing() {
     // A sheet meets no refusal above 8.
     let never: Vec<String> = (9..14).map(|number| format!("refusal {number}")).collect();
     assert_eq!(run.over(0..300).missing(9..14), never);
+}
+
+#[test]
+fn days_that_are_all_even_lack_a_hottest_hour_elsewhere() {
+    let lacks = |make, count| {
+        let seed = 3;
+        let check = &check;
+        Run { seed, make, check }.over(0..count).missing(0..0)
+    };
+    let even = |_: &mut Random| Input::Factor {
+        cable: Cable::from([500, 1_000, 500, 600_000, 500_000, 1_000, 100, 400]),
+        hours: [200; 24],
+    };
+    let words = "factor with the hottest hour below the highest load";
+    assert_eq!(lacks(even, 3), [words]);
+    assert!(lacks(Input::any_factor, 300).is_empty());
 }
 
 #[test]

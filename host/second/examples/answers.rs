@@ -2,6 +2,7 @@
 //! word and whole numbers: the cable's eight fields, then
 //! share: minutes; factor: 24 hours; current: h, r, minutes;
 //! rise: start, first link, then minutes, amperes, next link of each record.
+//! Of a factor it tells the largest heating sum T and the hour of it.
 
 use second::{current, factor, rise, share, sheet, Cable};
 use std::io::BufRead;

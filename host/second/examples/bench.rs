@@ -1,7 +1,7 @@
 //! Times this program on the cases of bench/cases.txt, read from standard input
 //! without their comments, for bench/run. A line for each: name, microseconds, and
-//! the exact value in millionths: share and rise; the heating sum T of a factor; the
-//! share G of a current.
+//! the exact value in millionths: share and rise; the largest heating sum T of a factor;
+//! the share G of a current.
 
 use second::{current, factor, rise, share, sheet, Cable, Refusal};
 use std::hint::black_box;

@@ -1,6 +1,6 @@
 //! Cyclic and emergency ratings of a buried cable in f64: the exact attained
-//! share, the rise after a load history, the heating sum of a daily cycle and
-//! the emergency current, each with its refusals.
+//! share, the rise after a load history, the largest heating sum of a daily
+//! cycle and the emergency current, each with its refusals.
 
 mod integral;
 mod sheet;
@@ -69,10 +69,12 @@ impl Refusal {
 /// The heating of a daily cycle.
 #[derive(Debug, Clone, Copy, PartialEq)]
 pub struct Factor {
-    /// T: the exact heating sum in millionths. The exact factor is 1 over the
-    /// square root of T/1,000,000.
+    /// T: the largest exact heating sum in millionths, over the 24 hours that may be
+    /// the reference. The exact factor is 1 over the square root of T/1,000,000.
     pub sum_millionths: f64,
-    /// Hour of the highest load, the latest where several are equal.
+    /// Hour of that sum, the latest where several are equal. For information only:
+    /// of hours whose exact sums are equal or nearly so, the last bit of an f64
+    /// decides.
     pub reference_hour: usize,
 }
 
@@ -160,7 +162,28 @@ pub fn share(c: &Cable, minutes: u32) -> Result<f64, Refusal> {
     Ok(exact_share(c, minutes))
 }
 
-/// The heating sum of a daily cycle of hourly amperes. Refusals 2, 3, 10, 11.
+/// The heating sum with that hour as the reference, in millionths, times 24 and the
+/// squared highest load, so that what multiplies each G is whole. `all` is the sum of
+/// the squares, and the shares are G(1) to G(6).
+fn heating_sum(squares: &[i64; 24], all: i64, shares: &[f64; 6], hour: usize) -> f64 {
+    // Squared load i hours before the reference hour, around midnight.
+    let earlier = |i: usize| squares[(hour + 24 - i) % 24];
+    // Gathered: Y(j−1) − Yj for G(1) to G(5), Y5 − μ for G(6), and μ alone.
+    let mut heating = Sum::default();
+    heating.add(all as f64 * MILLION);
+    for j in 1..=6 {
+        let before = if j < 6 { 24 * earlier(j) } else { all };
+        let weight = 24 * earlier(j - 1) - before;
+        heating.add(weight as f64 * shares[j - 1]);
+    }
+    heating.value()
+}
+
+/// The largest heating sum of a daily cycle of hourly amperes. Refusals 2, 3, 10, 11.
+///
+/// Document 02, note 1: 'the reference hour becomes the one with the largest
+/// rounded-up heating sum of all 24. The factor rule now speaks of the largest exact
+/// sum'.
 pub fn factor(c: &Cable, hours: &[u16; 24]) -> Result<Factor, Refusal> {
     check_cable(c)?;
     if let Some(hour) = hours.iter().position(|&amperes| amperes > MOST_AMPERES) {
@@ -169,35 +192,25 @@ pub fn factor(c: &Cable, hours: &[u16; 24]) -> Result<Factor, Refusal> {
             place: Place::Hour(hour as u8),
         });
     }
-    let mut reference_hour = 0;
-    for hour in 1..24 {
-        if hours[hour] >= hours[reference_hour] {
-            reference_hour = hour;
-        }
-    }
-    if hours[reference_hour] == 0 {
+    let squares = hours.map(|amperes| i64::from(amperes) * i64::from(amperes));
+    // Y and μ are over the squared highest load of the day, whichever hour is the
+    // reference.
+    let highest = squares.iter().fold(0, |most, &square| most.max(square));
+    if highest == 0 {
         return Err(Refusal::nowhere(11));
     }
 
-    // Squared load i hours before the reference hour, around midnight.
-    let squared = |i: usize| {
-        let amperes = i64::from(hours[(reference_hour + 24 - i) % 24]);
-        amperes * amperes
-    };
-    let highest = squared(0);
-    let all: i64 = (0..24).map(squared).sum();
-
-    // Everything times 24·highest, so that what multiplies each G is whole.
-    // Gathered: Y(j−1) − Yj for G(1) to G(5), Y5 − μ for G(6), and μ alone.
-    let mut heating = Sum::default();
-    heating.add(all as f64 * MILLION);
-    for j in 1..=6 {
-        let later = if j < 6 { 24 * squared(j) } else { all };
-        let weight = 24 * squared(j - 1) - later;
-        heating.add(weight as f64 * exact_share(c, 60 * j as u32));
+    let all = squares.iter().sum();
+    let shares = [1, 2, 3, 4, 5, 6].map(|hour| exact_share(c, 60 * hour));
+    let (mut reference_hour, mut largest) = (0, f64::NEG_INFINITY);
+    for hour in 0..24 {
+        let sum = heating_sum(&squares, all, &shares, hour);
+        if sum >= largest {
+            (reference_hour, largest) = (hour, sum);
+        }
     }
     Ok(Factor {
-        sum_millionths: heating.value() / (24 * highest) as f64,
+        sum_millionths: largest / (24 * highest) as f64,
         reference_hour,
     })
 }

@@ -1,4 +1,5 @@
-//! The paper's cases C1 to C12 and its small examples of refusals.
+//! The paper's cases C1 to C12 and its small examples of refusals. Document 02, note 1:
+//! 'C3 and C4 keep their answers.'
 
 use second::{current, factor, rise, share, sheet, Cable, Place, Refusal};
 
@@ -57,6 +58,7 @@ fn c2_steps_without_change() {
 fn c3_even_day() {
     let f = factor(&A, &[200; 24]).unwrap();
     assert_eq!(f.sum_millionths, 1_000_000.0);
+    // All 24 sums are equal.
     assert_eq!(f.reference_hour, 23);
 }
 
@@ -314,36 +316,6 @@ fn falling_step_mirrors_rising_step() {
     assert!((down.exact_millionths + up.exact_millionths - 1_000_000.0).abs() < 1e-6);
     assert!((up.exact_millionths - share(&A, 60).unwrap()).abs() < 1e-9);
     assert_eq!(down.changes, up.changes);
-}
-
-#[test]
-fn cycle_ungathered() {
-    let mut hours = [0u16; 24];
-    for (i, amperes) in hours.iter_mut().enumerate() {
-        *amperes = ((i * i * 37 + 11 * i) % 390) as u16;
-    }
-    // Highest at 2 and at 4: the latest counts, and the walk passes midnight.
-    hours[2] = 390;
-    hours[4] = 390;
-    let f = factor(&A, &hours).unwrap();
-    assert_eq!(f.reference_hour, 4);
-    let back = [4usize, 3, 2, 1, 0, 23];
-    let scaled = |hour: usize| (f64::from(hours[hour]) / 390.0).powi(2);
-    let g: Vec<f64> = (0..7)
-        .map(|j| {
-            if j == 0 {
-                0.0
-            } else {
-                share(&A, 60 * j).unwrap()
-            }
-        })
-        .collect();
-    let mean = (0..24).map(scaled).sum::<f64>() / 24.0;
-    let mut t = mean * (1e6 - g[6]);
-    for i in 0..6 {
-        t += scaled(back[i]) * (g[i + 1] - g[i]);
-    }
-    assert!((f.sum_millionths - t).abs() < 1e-6);
 }
 
 #[test]

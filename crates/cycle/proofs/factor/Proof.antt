@@ -1,5 +1,5 @@
 -- `cycle::factor` answers by the first refusal in the order 2, 3, 10, 11, or by the factor. Assumes nothing.
-use mathlib.Core.Path.{_≡_, sym, ap, _∙_}
+use mathlib.Core.Path.{_≡_, sym, _∙_}
 use Prim.Native.Nat.{ℕ, _<_}
 use native.Mathlib.Omega.{arith}
 use borrow.Author.Needs.{needs}
@@ -8,11 +8,7 @@ use lib.ListN.{length}
 use mir.Syntax.{w16}
 use Rattle.cable.specs.Checks.{checked}
 use Rattle.cable.specs.declared.CableCheck.the-variants as C
-use Rattle.cycle.specs.Day.{dayHours, load, highestLoad}
-use Rattle.cycle.specs.Heating.{heatingSum}
-use Rattle.cycle.specs.Factor.{largestFactor}
-use Rattle.cycle.specs.Answer.{hourPair}
-use Rattle.cycle.specs.declared.FactorAnswer.the-variants.{Factor}
+use Rattle.cycle.specs.Day.{dayHours, highestLoad}
 use Rattle.cycle.proofs.Answers.{cable-refused, hour-refused, nothing-refused, factor-given, ready}
 use Rattle.cycle.proofs.Said.{said}
 use Rattle.cycle.proofs.factor.Statement.{statement}
@@ -28,8 +24,8 @@ enum-told : tie.Need-enum-told
 enum-told c = search needs
 
 -- the array's length
-day : (k : tie.After-check-cable) → length (k .before .args .t2) ≡ dayHours
-day k = good-length (eInt w16) dayHours (k .before .args .t2) _ (k .before .good .1 .0)
+day : (k : tie.After-check-cable) → length (k .before .args .hours) ≡ dayHours
+day k = good-length (eInt w16) dayHours (k .before .args .hours) _ (k .before .good .1 .0)
 
 refusal-of-requires : tie.Need-refusal-of-requires
 refusal-of-requires c κs = rw (c .enum-told .given .1) tt
@@ -44,53 +40,41 @@ accepted k = sym (k .before .before .before .check-cable .ensures .answer) ∙ k
 first-above-requires : tie.Need-first-above-requires
 first-above-requires c κs = search needs
 
-cast-t11 : tie.Need-cast-t11
-cast-t11 c = search needs
+cast-t8 : tie.Need-cast-t8
+cast-t8 c = search needs
 
 returns-2 : tie.Need-returns-2
 returns-2 c =
     let k = c .before .before in
     said (day (k .before .before .before)) (hour-refused _ _ (accepted k) (c .before .first-above .ensures) (c .if1 .taken))
 
-latest-highest-requires : tie.Need-latest-highest-requires
-latest-highest-requires c κs = search needs
-
-mul-if2 : tie.Need-mul-if2
-mul-if2 c = search needs
-
-array-read-if2 : tie.Need-array-read-if2
-array-read-if2 c = search needs
+highest-load-requires : tie.Need-highest-load-requires
+highest-load-requires c κs = search needs
 
 returns-3 : tie.Need-returns-3
 returns-3 c =
     let k = c .before .before in
-    let s = k .before .before .before .before .before .before in
     let l = day (k .before .before .before .before .before) in
     said l
-    (nothing-refused _ _ (accepted (k .before .before)) (k .before .first-above .ensures) (k .if1 .left) l
-    (ap (load (s .args .t2)) (sym (c .before .latest-highest .ensures .0)) ∙ c .if2 .taken))
+    (nothing-refused _ _ (accepted (k .before .before)) (k .before .first-above .ensures) (k .if1 .left) l (sym (c .before .highest-load .ensures) ∙ c .if2 .taken))
 
 -- some hour is loaded
 not-zero : (n : ℕ) → (n ≡ 0 → ⊥) → 0 < n
 not-zero n h = omega arith
 
-loaded : (k : tie.Else2) → 0 < highestLoad (k .before .before .before .before .before .before .before .before .args .t2)
-loaded k = rw (← k .before .latest-highest .ensures .0) (not-zero _ (k .if2 .left))
+loaded : (k : tie.Else2) → 0 < highestLoad (k .before .before .before .before .before .before .before .before .args .hours)
+loaded k = rw (← k .before .highest-load .ensures) (not-zero _ (k .if2 .left))
 
-factor-at-requires : tie.Need-factor-at-requires
-factor-at-requires c κs =
+factor-of-day-requires : tie.Need-factor-of-day-requires
+factor-of-day-requires c κs =
     let k = c .before .before in
-    ready _ _ (accepted (k .before .before)) (k .before .first-above .ensures) (k .if1 .left) (loaded c) (c .before .latest-highest .ensures .1)
+    ready _ _ (accepted (k .before .before)) (k .before .first-above .ensures) (k .if1 .left) (loaded c)
 
 returns-4 : tie.Need-returns-4
 returns-4 c =
     let k = c .before .before .before in
-    let s = k .before .before .before .before .before .before in
     said (day (k .before .before .before .before .before))
-    (factor-given _ _ (accepted (k .before .before)) (k .before .first-above .ensures) (k .if1 .left) (loaded (c .before))
-    (c .factor-at .ensures
-    ∙ ap (λ (hour : ℕ). Factor (largestFactor (heatingSum (hourPair (k .before .before .before .checked .given .0 .0)) (s .args .t2) hour)))
-    (c .before .before .latest-highest .ensures .0)))
+    (factor-given _ _ (accepted (k .before .before)) (k .before .first-above .ensures) (k .if1 .left) (loaded (c .before)) (c .factor-of-day .ensures))
 
 pub factor-spec : {M : Type 1} → statement M
 factor-spec =
@@ -102,11 +86,9 @@ factor-spec =
     refusal-of-requires
     returns
     first-above-requires
-    cast-t11
+    cast-t8
     returns-2
-    latest-highest-requires
-    mul-if2
-    array-read-if2
+    highest-load-requires
     returns-3
-    factor-at-requires
+    factor-of-day-requires
     returns-4)

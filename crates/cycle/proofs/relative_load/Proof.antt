@@ -26,9 +26,6 @@ square-requires c κs = search needs
 mul-result : tie.Need-mul-result
 mul-result c = search needs
 
-squared-loads-requires : tie.Need-squared-loads-requires
-squared-loads-requires c κs = search needs
-
 returns : tie.Need-returns
 unfolding relativeLoad
 returns c =
@@ -38,8 +35,8 @@ returns c =
 returns-2 : tie.Need-returns-2
 unfolding relativeLoad
 returns-2 c =
-    let s = c .before .before .args in
-    (c .squared-loads .ensures .0 ∙ rw (relativeLoad, le-ltb (s .i) heatingHours (c .before .if1 .left)), c .squared-loads .ensures .1)
+    let s = c .before in
+    (s .pre .0 .mean-is ∙ rw (relativeLoad, le-ltb (s .args .i) heatingHours (c .if1 .left)), s .pre .0 .mean-to)
 
 pub relative-load-spec : {M : Type 1} → statement M
 relative-load-spec =
@@ -51,6 +48,5 @@ relative-load-spec =
     array-read-square
     square-requires
     mul-result
-    squared-loads-requires
     returns
     returns-2)

@@ -1,0 +1,67 @@
+-- The shares of the six hours in a list, filled one by one; and the sums with them are those with the hours' pairs.
+use mathlib.Core.Path.{_≡_, refl, ap, _∙_}
+use mathlib.Core.Bool.{Bool, true, false}
+use mathlib.Core.List.{List}
+use Prim.Native.Nat.{ℕ, zero, suc, _+_, _≤_, _<_}
+use native.Mathlib.Nat.{le-refl}
+use native.Mathlib.Omega.{arith}
+use borrow.Author.Count.{below-more}
+use lib.Dec.{ltb}
+use borrow.Author.Tests.{ltb-true, ltb-false}
+use lib.IntN.{ℤ, pos}
+use lib.ListN.{length, set, length-set, List·getD-eq-default}
+use lib.Seq.{getD-set-same, getD-set-other}
+use Rattle.bounds.specs.Operations.{pointB}
+use Rattle.bounds.specs.Promises.{Sized}
+use Rattle.bounds.specs.declared.Bounds.{Bounds}
+use Rattle.cable.specs.declared.Cable.{Cable}
+use Rattle.cycle.specs.Day.{dayHours, highestLoad}
+use Rattle.cycle.specs.Heating.{heatingHours, gatheredBounds, heatingBounds, heatingSum, latestLargest, referenceHour}
+use Rattle.cycle.specs.Answer.{hourPair}
+use Rattle.cycle.specs.Asked.{pairsOf, Shared}
+use Rattle.cycle.proofs.Answers.{hour-sized}
+
+-- the first i of six are there
+pub record Filled (cable : Cable) (shares : List Bounds) (i : ℕ) : Type 0 where
+  pub six : length shares ≡ heatingHours
+  pub filled : (j : ℕ) → j < i → pairsOf shares (suc j) ≡ hourPair cable (suc j)
+
+pub none-filled : {cable : Cable} {shares : List Bounds} → length shares ≡ heatingHours → Filled cable shares 0
+none-filled e = record { six = e; filled = λ j h. absurd (omega arith) }
+
+pub next-filled : {cable : Cable} {shares : List Bounds} {i : ℕ} {p : Bounds} → Filled cable shares i → i < heatingHours → p ≡ hourPair cable (suc i) → Filled cable (set shares i p) (i + 1)
+next-filled {cable} {shares} {i} {p} f h e =
+    let none = pointB (pos 0) in
+    record {
+      six = length-set shares i p ∙ f .six;
+      filled =
+          below-more (λ j. pairsOf (set shares i p) (suc j) ≡ hourPair cable (suc j)) i (λ j l. getD-set-other shares i j p none (λ q. omega arith) ∙ f .filled j l)
+          (getD-set-same shares i p none (omega (arith, f .six)) ∙ e);
+    }
+
+-- ---- the sums
+latest-same : (f g : ℕ → ℤ) → ((h : ℕ) → f h ≡ g h) → (n : ℕ) → latestLargest f n ≡ latestLargest g n
+unfolding latestLargest
+latest-same f g e zero = refl
+latest-same f g e (suc n) = rw (latest-same f g e n, e n, e (latestLargest g n)) refl
+
+module _ {cable : Cable} {shares : List Bounds} (f : Filled cable shares heatingHours) (hours : List ℕ) where
+  pub filled-shared : 0 < highestLoad hours → Shared shares hours
+  filled-shared z = record { sized = λ i. by i (ltb i heatingHours) refl; loaded = z }
+    where
+      by : (i : ℕ) (t : Bool) → ltb i heatingHours ≡ t → Sized 1000000 (pairsOf shares (suc i))
+      by i true e = rw (f .filled i (ltb-true i heatingHours e)) (hour-sized cable (suc i))
+      by i false e = rw (List·getD-eq-default shares (pointB (pos 0)) {n = i} (omega (arith, f .six, ltb-false i heatingHours e))) (record { low = omega arith; high = omega arith })
+
+  same-gathered : (hour n : ℕ) → n ≤ heatingHours → gatheredBounds hours hour (pairsOf shares) n ≡ gatheredBounds hours hour (hourPair cable) n
+  unfolding gatheredBounds
+  same-gathered hour zero h = refl
+  same-gathered hour (suc n) h = rw (same-gathered hour n (omega arith), f .filled n (omega arith)) refl
+
+  pub same-heating : (hour : ℕ) → heatingBounds (pairsOf shares) hours hour ≡ heatingBounds (hourPair cable) hours hour
+  unfolding heatingBounds
+  same-heating hour = rw (same-gathered hour heatingHours (le-refl heatingHours)) refl
+
+  -- the largest sum
+  pub same-largest : heatingBounds (pairsOf shares) hours (referenceHour (pairsOf shares) hours) ≡ heatingBounds (hourPair cable) hours (referenceHour (hourPair cable) hours)
+  same-largest = ap (heatingBounds (pairsOf shares) hours) (latest-same (heatingSum (pairsOf shares) hours) (heatingSum (hourPair cable) hours) (λ h. ap (λ (b : Bounds). b .high) (same-heating h)) dayHours) ∙ same-heating (referenceHour (hourPair cable) hours)
