@@ -1,5 +1,6 @@
 // The attained share of accepted numbers, in fixed point. Document 01, 'The attained share'.
 ghost use mathlib.Core.Path.{_≡_};
+ghost use mathlib.Core.List.{[]};
 ghost use Rattle.bounds.specs.Pair.{asBounds, asPair, lessP};
 ghost use Rattle.bounds.specs.Promises.{QuotientRoom};
 ghost use Rattle.model.specs.Scale.{betaOne};
@@ -68,7 +69,7 @@ fn attainment(w: u64, fast: u64, slow: u64, seconds: u64) -> Bounds
     rest_of(ATTAINMENT_ONE, fast_part.add(slow_part)).divided(MILLION)
 }
 
-// The attained share, in millionths, of the fields of an accepted cable after some seconds.
+// The attained share, in millionths, of the fields of an accepted cable without neighbours, after some seconds.
 pub fn attained_share(
     d: u64,
     l: u64,
@@ -80,7 +81,7 @@ pub fn attained_share(
     seconds: u64,
 ) -> Bounds
     requires { ⌜ ShareAsked d l s k w fast slow seconds ⌝ }
-    ensures { λ r. ⌜ r ≡ asBounds (attainedShare d l s k w fast slow seconds) ⌝ }
+    ensures { λ r. ⌜ r ≡ asBounds (attainedShare d l s k w fast slow seconds []) ⌝ }
 {
     let logarithm = integral::logarithm(d, 40 * l).times(2);
     let top = bounds::natural(logarithm.high);

@@ -1,32 +1,21 @@
 -- Checks 2 and 3 pass exactly where the cable in use is in range and so is its field 8.
-use mathlib.Core.Path.{_≡_, refl}
-use mathlib.Core.Bool.{Bool, true, false, cond, _||_}
-use mathlib.Core.List.{List, [], _∷_}
-use Prim.Native.Nat.{ℕ, suc, _≤_, _<_}
+use mathlib.Core.Path.{_≡_, refl, ap, subst, _∙_}
+use mathlib.Core.Bool.{Bool, true, false, cond}
+use Prim.Native.Nat.{ℕ, _≤_, _<_}
 use native.Mathlib.Omega.{arith}
 use borrow.Author.Tests.{ltb-false, le-ltb}
 use lib.Dec.{eqb, ltb}
-use Rattle.cable.specs.Checks.{Range, _to_, orZero, ranges, fields, outside, firstOutside, outsideField, checked, inUse, defaultDiffusivity}
+use Rattle.refusals.specs.Ranges.{_to_, orZero, outside}
+use Rattle.refusals.proofs.Ranges.{passed-within, within-passes, Each, none-outside, each-passes}
+use Rattle.cable.specs.Checks.{ranges, fields, outsideField, checked, inUse}
 use Rattle.cable.specs.Stated.{statedCheck}
-use Rattle.cable.specs.InRange.{Acceptable}
+use Rattle.exact.specs.Share.{none}
+use Rattle.cable.specs.Group.{defaultDiffusivity, Group, accepted, refused, alone, afterCheck, givenCable}
+use Rattle.cable.specs.InRange.{Acceptable, Sound}
 use Rattle.cable.specs.declared.Cable.{Cable}
-use Rattle.cable.specs.declared.Refusal.{Refusal}
+use Rattle.refusals.specs.declared.Refusal.{Refusal}
+use Rattle.cable.specs.declared.CableCheck.{CableCheck}
 use Rattle.cable.specs.declared.CableCheck.the-variants.{Accepted, Refused}
-
--- ---- a range and its test
-
-neither : (s t : Bool) → (s || t) ≡ false → (s ≡ false) × (t ≡ false)
-neither false t e = (refl, e)
-neither true t e = let z : _≡_ {A = ℕ} 0 1 = cc in absurd (omega arith)
-
-module _ (low high x : ℕ) where
-  pub passed-within : outside (low to high) x ≡ false → (low ≤ x) × (x ≤ high)
-  passed-within e =
-      let n = neither (ltb x low) (ltb high x) e in
-      (ltb-false x low (n .0), ltb-false high x (n .1))
-
-  within-passes : low ≤ x → x ≤ high → outside (low to high) x ≡ false
-  within-passes l h = rw (le-ltb x low l, le-ltb high x h)
 
 -- the diffusivity in use, where the default is in range
 module _ (low high default x : ℕ) (l : low ≤ default) (h : default ≤ high) where
@@ -38,32 +27,9 @@ module _ (low high default x : ℕ) (l : low ≤ default) (h : default ≤ high)
   used-passes true e p q = rw e
   used-passes false e p q = rw e (within-passes low high x p q)
 
--- ---- the fields one by one
-
 infixr 5 _and_
 _and_ : {A B : Type 0} → A → B → A × B
 p and q = (p, q)
-
-abbrev Each : List Range → List ℕ → Type 0
-Each (r ∷ rs) (x ∷ xs) = (outside r x ≡ false) × Each rs xs
-Each (r ∷ rs) [] = Unit {0}
-Each [] xs = Unit {0}
-
-first-passed : (t : Bool) {k n : ℕ} → 0 < k → cond t k n ≡ 0 → (t ≡ false) × (n ≡ 0)
-first-passed true h e = absurd (omega arith)
-first-passed false h e = (refl, e)
-
-none-outside : (k : ℕ) (rs : List Range) (xs : List ℕ) → 0 < k → firstOutside k rs xs ≡ 0 → Each rs xs
-none-outside k (r ∷ rs) (x ∷ xs) h e =
-    let p = first-passed (outside r x) h e in
-    (p .0, none-outside (suc k) rs xs (omega arith) (p .1))
-none-outside k (r ∷ rs) [] h e = tt
-none-outside k [] xs h e = tt
-
-each-passes : (k : ℕ) (rs : List Range) (xs : List ℕ) → Each rs xs → firstOutside k rs xs ≡ 0
-each-passes k (r ∷ rs) (x ∷ xs) e = rw (e .0) (each-passes (suc k) rs xs (e .1))
-each-passes k (r ∷ rs) [] e = refl
-each-passes k [] xs e = refl
 
 -- ---- the two checks
 
@@ -72,7 +38,7 @@ both-passed true u f g c p q e = absurd (omega arith)
 both-passed false true f g c p q e = absurd (omega arith)
 both-passed false false f g c p q e = (refl, refl)
 
-pub accepted-in-range : (c : Cable) → statedCheck (checked c) .number ≡ 0 → Acceptable c
+pub accepted-in-range : (c : Cable) → statedCheck (checked c) .number ≡ 0 → Acceptable (alone c)
 unfolding checked outsideField inUse
 accepted-in-range c e =
     let both = both-passed (ltb 0 (outsideField c)) (ltb (c .«fast_rate») (c .«slow_rate»)) _ _ c (omega arith) (omega arith) e in
@@ -101,11 +67,12 @@ accepted-in-range c e =
             slow-from = slow .0;
             slow-to = ltb-false (c .«fast_rate») (c .«slow_rate») (both .1);
           };
+      beside = none;
       rated-from = rated .0;
       rated-to = rated .1;
     }
 
-pub in-range-accepted : (c : Cable) → Acceptable c → checked c ≡ Accepted c
+pub in-range-accepted : (c : Cable) → Acceptable (alone c) → checked c ≡ Accepted c
 unfolding checked outsideField inUse
 in-range-accepted c a =
     let n = a .numbers in
@@ -131,3 +98,27 @@ accepted-same false false f g c d e = cc
 pub accepted-is : (c d : Cable) → checked c ≡ Accepted d → d ≡ c
 unfolding checked outsideField
 accepted-is c d e = accepted-same (ltb 0 (outsideField c)) (ltb (c .«fast_rate») (c .«slow_rate»)) _ _ c d e
+
+-- ---- what is given
+
+pub check-given : (c d : Cable) {g : Group} → checked c ≡ Accepted d → g ≡ alone d → accepted g ≡ givenCable c
+unfolding givenCable
+check-given c d e u = rw (e, givenCable) (ap accepted (u ∙ ap alone (accepted-is c d e)))
+
+pub check-refused : (c : Cable) {f : Refusal} → checked c ≡ Refused f → refused f ≡ givenCable c
+unfolding givenCable
+check-refused c e = rw (e, givenCable)
+
+given-by : (c : Cable) (a : CableCheck) {g : Group} → checked c ≡ a → afterCheck a (accepted (alone c)) ≡ accepted g → (checked c ≡ Accepted c) × (alone c ≡ g)
+given-by c (Accepted d) e p = (e ∙ ap Accepted (accepted-is c d e), cc)
+given-by c (Refused f) e p = let z : _≡_ {A = ℕ} 0 1 = cc in absurd (omega arith)
+
+-- a cable gives the group of itself alone, and only where both checks pass
+pub given-alone : (c : Cable) {g : Group} → givenCable c ≡ accepted g → (checked c ≡ Accepted c) × (alone c ≡ g)
+unfolding givenCable
+given-alone c p = given-by c (checked c) refl p
+
+pub given-sound : (c : Cable) → Sound (givenCable c)
+given-sound c g p =
+    let by = given-alone c p in
+    subst Acceptable (by .1) (accepted-in-range c (ap (λ (a : CableCheck). statedCheck a .number) (by .0)))

@@ -1,26 +1,14 @@
 -- Document 01, 'The cable' and 'When the desk is told no', numbers 2 and 3: the range of each field, the first refusal, and the diffusivity in use.
-use mathlib.Core.Bool.{Bool, true, false, cond, _&&_, _||_}
+use mathlib.Core.Bool.{cond}
 use mathlib.Core.List.{List, [], _∷_}
-use Prim.Native.Nat.{ℕ, suc}
+use Prim.Native.Nat.{ℕ}
 use lib.Dec.{eqb, ltb}
 use lib.ListN.{getD}
+use Rattle.refusals.specs.Ranges.{Range, _to_, orZero, firstOutside}
 use Rattle.cable.specs.declared.Cable.{Cable}
-use Rattle.cable.specs.declared.Place.the-variants.{None, Field}
+use Rattle.refusals.specs.declared.Place.the-variants.{None, Field}
 use Rattle.cable.specs.declared.CableCheck.{CableCheck}
 use Rattle.cable.specs.declared.CableCheck.the-variants.{Accepted, Refused}
-
--- The least and the greatest value of a field, and whether 0 is a value besides.
-pub record Range : Type 0 where
-  pub low : ℕ
-  pub high : ℕ
-  pub zero-too : Bool
-
-infix 70 _to_
-abbrev pub _to_ : ℕ → ℕ → Range
-low to high = record { low = low; high = high; zero-too = false }
-
-abbrev pub orZero : Range → Range
-orZero r = record { low = r .low; high = r .high; zero-too = true }
 
 -- The table's last column.
 abbrev pub ranges : List Range
@@ -62,15 +50,6 @@ cableFrom xs =
       rated = getD xs 7 0;
     }
 
-abbrev pub outside : Range → ℕ → Bool
-outside r x = cond (r .zero-too && eqb x 0) false (ltb x (r .low) || ltb (r .high) x)
-
--- The number of the first value outside its range, counted from k, or 0.
-abbrev pub firstOutside : ℕ → List Range → List ℕ → ℕ
-firstOutside k (r ∷ rs) (x ∷ xs) = cond (outside r x) k (firstOutside (suc k) rs xs)
-firstOutside k (r ∷ rs) [] = 0
-firstOutside k [] xs = 0
-
 unfoldable pub outsideField : Cable → ℕ
 outsideField c = firstOutside 1 ranges (fields c)
 
@@ -80,14 +59,6 @@ checked c =
     cond (ltb 0 (outsideField c)) (Refused (record { number = 2; place = Field (outsideField c) }))
     (cond (ltb (c .«fast_rate») (c .«slow_rate»)) (Refused (record { number = 3; place = None }))
     (Accepted c))
-
-abbrev pub refuses : CableCheck → Bool
-refuses (Accepted c) = false
-refuses (Refused f) = true
-
--- "or 0, which stands for 500"
-abbrev pub defaultDiffusivity : ℕ
-defaultDiffusivity = 500
 
 -- The cable with which everything is computed: the default for a diffusivity of 0.
 unfoldable pub inUse : ℕ → Cable → Cable

@@ -2,9 +2,10 @@
 use mathlib.Core.Path.{_≡_, refl}
 use mathlib.Core.List.{[], _∷_}
 use Prim.Native.Nat.{ℕ}
-use Rattle.cable.specs.Checks.{fields, cableFrom, checked, outsideField, inUse, defaultDiffusivity}
+use Rattle.cable.specs.Checks.{fields, cableFrom, checked, outsideField, inUse}
+use Rattle.cable.specs.Group.{accepted, refused, only, alone, givenCable}
 use Rattle.cable.specs.declared.Cable.{Cable}
-use Rattle.cable.specs.declared.Place.the-variants.{None, Field}
+use Rattle.refusals.specs.declared.Place.the-variants.{None, Field}
 use Rattle.cable.specs.declared.CableCheck.{CableCheck}
 use Rattle.cable.specs.declared.CableCheck.the-variants.{Accepted, Refused}
 
@@ -108,10 +109,19 @@ zero-diffusivity : checked (cable 500 1000 0 600000 500000 1000 100 400) ≡ Acc
 unfolding checked outsideField
 zero-diffusivity = refl
 
-zero-in-use : inUse defaultDiffusivity (cable 500 1000 0 600000 500000 1000 100 400) ≡ cable 500 1000 500 600000 500000 1000 100 400
+zero-in-use : alone (cable 500 1000 0 600000 500000 1000 100 400) ≡ only (cable 500 1000 500 600000 500000 1000 100 400)
 unfolding inUse
 zero-in-use = refl
 
-given-in-use : inUse defaultDiffusivity (cable 500 1000 499 600000 500000 1000 100 400) ≡ cable 500 1000 499 600000 500000 1000 100 400
+given-in-use : alone (cable 500 1000 499 600000 500000 1000 100 400) ≡ only (cable 500 1000 499 600000 500000 1000 100 400)
 unfolding inUse
 given-in-use = refl
+
+-- what is given: the cable in use alone, or the refusal
+zero-given : givenCable (cable 500 1000 0 600000 500000 1000 100 400) ≡ accepted (only (cable 500 1000 500 600000 500000 1000 100 400))
+unfolding givenCable checked outsideField inUse
+zero-given = refl
+
+refusal-given : givenCable (cable 500 1000 500 600000 500000 100 101 2001) ≡ refused (record { number = 2; place = Field 8 })
+unfolding givenCable checked outsideField
+refusal-given = refl

@@ -1,4 +1,5 @@
 pub mod Checks
+pub mod Group
 pub mod Stated
 pub mod InRange
 pub mod Promises

@@ -1,12 +1,15 @@
 -- What the functions on a cable promise.
 use mathlib.Core.Path.{_≡_}
-use Prim.Native.Nat.{ℕ}
-use Rattle.cable.specs.Checks.{checked, inUse}
+use Rattle.cable.specs.Checks.{checked}
+use Rattle.cable.specs.Group.{only, alone, givenCable, asGiven}
 use Rattle.cable.specs.declared.Cable.{Cable}
 use Rattle.cable.specs.declared.CableCheck.{CableCheck}
 
 pub record Checked (c : Cable) (r : CableCheck) : Type 0 where
   pub answer : r ≡ checked c
 
-pub record InUse (default : ℕ) (c r : Cable) : Type 0 where
-  pub answer : r ≡ inUse default c
+pub record Alone (c r : Cable) : Type 0 where
+  pub answer : only r ≡ alone c
+
+pub record GivenBy (c : Cable) (r : CableCheck) : Type 0 where
+  pub answer : asGiven r ≡ givenCable c

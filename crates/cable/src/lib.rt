@@ -1,12 +1,11 @@
-// A cable, the refusal of an input and its place, and the checks 2 and 3 of a cable.
+// A cable, and its checks 2 and 3.
 ghost use mathlib.Core.Path.{_≡_};
 ghost use Prim.Native.Nat.{_≤_};
-ghost use lib.Dec.{T};
 ghost use lib.ListN.{length};
-ghost use Rattle.cable.specs.Checks.{_to_, cableFrom, orZero, outside, outsideField, refuses};
-ghost use Rattle.cable.specs.declared.CableCheck.the-variants.{Refused};
-ghost use Rattle.cable.specs.Promises.{Checked, InUse};
-ghost use Rattle.cable.specs.Stated.{placeNumber};
+ghost use Rattle.cable.specs.Checks.{cableFrom, outsideField};
+ghost use Rattle.cable.specs.Promises.{Checked, Alone, GivenBy};
+use refusals::Place;
+use refusals::Refusal;
 
 // The fields in the order and the units of document 01's table; a diffusivity of 0 stands for the default.
 pub struct Cable {
@@ -37,40 +36,13 @@ pub fn cable_from(fields: &[u32]) -> Cable
     }
 }
 
-// A field, a record, an hour or an input, by its number, or none.
-pub enum Place {
-    None,
-    Field(u8),
-    Record(u8),
-    Hour(u8),
-    Input(u8),
-}
-
-pub struct Refusal {
-    pub number: u8,
-    pub place: Place,
-}
-
-// The place's number, 0 for none.
-pub fn place_number(place: Place) -> u8
-    ensures { λ r. ⌜ r ≡ placeNumber place ⌝ }
-{
-    match place {
-        Place::None => 0,
-        Place::Field(number) => number,
-        Place::Record(number) => number,
-        Place::Hour(number) => number,
-        Place::Input(number) => number,
-    }
-}
-
 pub enum CableCheck {
     Accepted(Cable),
     Refused(Refusal),
 }
 
 // The diffusivity that 0 stands for, in 10^-9 m²/s.
-pub const DEFAULT_DIFFUSIVITY: u32 = 500;
+const DEFAULT_DIFFUSIVITY: u32 = 500;
 
 // Refusal 2 at the first field outside its range, refusal 3 where the slow rate is above the fast one, or the cable as it is.
 pub fn check_cable(cable: Cable) -> CableCheck
@@ -92,71 +64,58 @@ pub fn check_cable(cable: Cable) -> CableCheck
     CableCheck::Accepted(cable)
 }
 
-// The refusal of a check that refuses; the other arm is never taken.
-pub fn refusal_of(check: CableCheck) -> Refusal
-    requires { ⌜ T (refuses check) ⌝ }
-    ensures { λ r. ⌜ check ≡ Refused r ⌝ }
+// What a calculation is given by a cable: the cable in use, or the refusal of check 2 or 3.
+pub fn given(cable: Cable) -> CableCheck
+    ensures { λ r. ⌜ GivenBy cable r ⌝ }
 {
-    match check {
-        CableCheck::Refused(refusal) => refusal,
-        CableCheck::Accepted(_) => Refusal {
-            number: 12,
-            place: Place::Input(1),
-        },
+    let checked = check_cable(cable);
+    match checked {
+        CableCheck::Accepted(accepted) => CableCheck::Accepted(alone(accepted)),
+        CableCheck::Refused(refusal) => CableCheck::Refused(refusal),
     }
 }
 
-// The cable with the default put for a diffusivity of 0.
-pub fn in_use(cable: Cable, default: u32) -> Cable
-    ensures { λ r. ⌜ InUse default cable r ⌝ }
+// The cable in use, with nothing beside it: the default is put for a diffusivity of 0.
+pub fn alone(cable: Cable) -> Cable
+    ensures { λ r. ⌜ Alone cable r ⌝ }
 {
     let mut used = cable;
     if used.diffusivity == 0 {
-        used.diffusivity = default;
+        used.diffusivity = DEFAULT_DIFFUSIVITY;
     }
     used
 }
 
-// The number of the first field outside its range, or 0.
+// The table's last column: of each field the least and the greatest value.
+const RANGES: [[u32; 2]; 8] = [
+    [100, 1500], // d
+    [300, 5000], // l
+    [100, 2000], // s
+    [0, 1000000], // k
+    [0, 1000000], // w
+    [1, 100000], // fast rate
+    [1, 100000], // slow rate
+    [50, 2000], // rated current
+];
+
+// The number of the first field outside its range, or 0. A diffusivity of 0 is a value: the least one is tested for it.
 fn outside_field(cable: Cable) -> u8
     ensures { λ r. ⌜ r ≡ outsideField cable ⌝ }
 {
-    if outside(cable.diameter, 100, 1500) {
-        return 1;
+    let ranges = RANGES;
+    let mut diffusivity = cable.diffusivity;
+    if diffusivity == 0 {
+        diffusivity = ranges[2][0];
     }
-    if outside(cable.depth, 300, 5000) {
-        return 2;
-    }
-    if outside_not_zero(cable.diffusivity, 100, 2000) {
-        return 3;
-    }
-    if outside(cable.surface_ratio, 0, 1000000) {
-        return 4;
-    }
-    if outside(cable.fast_weight, 0, 1000000) {
-        return 5;
-    }
-    if outside(cable.fast_rate, 1, 100000) {
-        return 6;
-    }
-    if outside(cable.slow_rate, 1, 100000) {
-        return 7;
-    }
-    if outside(cable.rated, 50, 2000) {
-        return 8;
-    }
-    0
-}
-
-// Whether x lies outside low to high.
-pub fn outside(x: u32, low: u32, high: u32) -> bool
-    ensures { λ r. ⌜ r ≡ outside (low to high) x ⌝ }
-{
-    x < low || high < x
-}
-
-fn outside_not_zero(x: u32, low: u32, high: u32) -> bool
-    ensures { λ r. ⌜ r ≡ outside (orZero (low to high)) x ⌝ }
-{
-    x != 0 && outside(x, low, high)
+    let fields = [
+        cable.diameter,
+        cable.depth,
+        diffusivity,
+        cable.surface_ratio,
+        cable.fast_weight,
+        cable.fast_rate,
+        cable.slow_rate,
+        cable.rated,
+    ];
+    refusals::first_outside(&fields, &ranges)
 }

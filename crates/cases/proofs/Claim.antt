@@ -2,8 +2,9 @@
 use mathlib.Core.Path.{refl}
 use Rattle.numbers.specs.Rounding.{floorZ, ceilZ}
 use Rattle.bounds.specs.Operations.{addB, dividedB}
-use Rattle.cable.specs.Checks.{outsideField, checked}
-use Rattle.share.specs.Answer.{shareAnswer}
+use Rattle.cable.specs.Checks.{outsideField, checked, inUse}
+use Rattle.cable.specs.Group.{givenCable}
+use Rattle.share.specs.Answer.{shareFrom}
 use Rattle.sheet.specs.BigEndian.{bigEndian}
 use Rattle.sheet.specs.Layout.{wrongLength}
 use Rattle.sheet.specs.Header.{cableOf, checkedHeader}
@@ -11,8 +12,8 @@ use Rattle.sheet.specs.Records.{recordOf, recordAt, checkedRecord}
 use Rattle.sheet.specs.Chain.{chainFrom}
 use Rattle.history.specs.Rise.{sumOf, riseOf}
 use Rattle.history.specs.Answer.{riseAnswer}
-use Rattle.cycle.specs.Answer.{factorFrom, factorAnswer}
-use Rattle.emergency.specs.Answer.{currentFrom, currentAnswer}
+use Rattle.cycle.specs.Answer.{factorFrom}
+use Rattle.emergency.specs.Answer.{currentFrom, currentOf}
 use Rattle.cases.specs.Table.{Hold, all, _⨾_, table}
 use Rattle.cases.proofs.Shares.{C9, C10}
 use Rattle.cases.proofs.Rises.{C2}
@@ -20,7 +21,7 @@ use Rattle.cases.proofs.Factors.{C3, C4}
 use Rattle.cases.proofs.Currents.{C5, C6, C7, C8}
 
 pub all-cases : Hold table
-unfolding checked outsideField shareAnswer checkedHeader wrongLength cableOf bigEndian chainFrom checkedRecord recordAt recordOf riseAnswer riseOf sumOf addB dividedB floorZ ceilZ factorAnswer factorFrom currentAnswer currentFrom
+unfolding givenCable checked outsideField inUse shareFrom checkedHeader wrongLength cableOf bigEndian chainFrom checkedRecord recordAt recordOf riseAnswer riseOf sumOf addB dividedB floorZ ceilZ factorFrom currentOf currentFrom
 all-cases =
     -- C1 to C12
     refl ⨾ refl ⨾ C2 ⨾ C3 ⨾ C4 ⨾ C5 ⨾ C6 ⨾ C7 ⨾ C8 ⨾ C9 ⨾ C10 ⨾ refl ⨾ refl ⨾ refl

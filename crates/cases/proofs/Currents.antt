@@ -10,17 +10,17 @@ use lib.IntN.{ℤ, pos, negsuc}
 use lib.Signed.{_≤ℤ_}
 use Rattle.numbers.proofs.Integers.{le-lin, lin-le}
 use Rattle.numbers.proofs.Largest.{found-largest}
-use Rattle.exact.specs.Share.{Accepted}
-use Rattle.cable.specs.Checks.{outsideField, checked, inUse, defaultDiffusivity}
-use Rattle.cable.specs.InRange.{numbersOf}
-use Rattle.cable.specs.declared.Place.the-variants.{None}
-use Rattle.cable.specs.declared.CableCheck.the-variants as C
+use Rattle.exact.specs.Share.{Accepted, none}
+use Rattle.cable.specs.Checks.{outsideField, checked, inUse}
+use Rattle.cable.specs.Group.{accepted, alone, givenCable}
+use Rattle.cable.specs.InRange.{numbersIn}
+use Rattle.refusals.specs.declared.Place.the-variants.{None}
 use Rattle.share.specs.Pair.{sharePair}
-use Rattle.share.specs.Answer.{shareAnswer}
+use Rattle.share.specs.Answer.{shareFrom}
 use Rattle.share.specs.declared.ShareAnswer.the-variants as S
 use Rattle.share.proofs.Promises.{share-promised}
 use Rattle.emergency.specs.Certifying.{mostCurrent, largestCertified}
-use Rattle.emergency.specs.Answer.{currentFrom, currentAnswer}
+use Rattle.emergency.specs.Answer.{currentFrom, currentOf, currentAnswer}
 use Rattle.emergency.proofs.Certifying.{movedLeft, movedRight, certified-moved, certified-falls}
 use Rattle.cases.specs.Table.{Meant, any-minutes, current, values, refusal, cableA, ratedA}
 use Rattle.cases.proofs.Shares.{high-above-zero}
@@ -37,34 +37,34 @@ module _ (rated h r i : ℕ) (limit : h * h ≡ 100 * r) (below : i < mostCurren
 
 -- ---- every minute count is answered from its share
 
-module _ (rated : ℕ) (passes : checked (ratedA rated) ≡ C.Accepted (ratedA rated)) (minutes : ℕ) (from : 1 ≤ minutes) (to : minutes ≤ 2880) where
-  accepted : Accepted (numbersOf (inUse defaultDiffusivity (ratedA rated))) minutes
+module _ (rated : ℕ) (given : givenCable (ratedA rated) ≡ accepted (alone (ratedA rated))) (minutes : ℕ) (from : 1 ≤ minutes) (to : minutes ≤ 2880) where
+  accepted-A : Accepted (numbersIn (alone (ratedA rated))) minutes
   unfolding inUse
-  accepted = omega arith
+  accepted-A = record { cable = omega arith; neighbours = none; minutes-from = from; minutes-to = to }
 
-  high-some : pos 1 ≤ℤ sharePair (ratedA rated) minutes .high
-  high-some = high-above-zero _ minutes accepted _ (share-promised (ratedA rated) minutes accepted)
+  high-some : pos 1 ≤ℤ sharePair (alone (ratedA rated)) minutes .high
+  high-some = high-above-zero _ minutes accepted-A _ (share-promised (alone (ratedA rated)) minutes accepted-A)
 
-  share-given : shareAnswer (ratedA rated) minutes ≡ S.Pair (sharePair (ratedA rated) minutes)
-  unfolding shareAnswer
-  share-given = rw (shareAnswer, passes, le-ltb minutes 1, le-ltb 2880 minutes)
+  share-given : shareFrom (alone (ratedA rated)) minutes ≡ S.Pair (sharePair (alone (ratedA rated)) minutes)
+  unfolding shareFrom
+  share-given = rw (shareFrom, le-ltb minutes 1, le-ltb 2880 minutes)
 
-  current-given : (h r : ℕ) → currentAnswer (ratedA rated) h r minutes ≡ currentFrom rated h r (sharePair (ratedA rated) minutes)
-  unfolding currentAnswer
-  current-given h r = rw (currentAnswer, share-given)
+  current-given : (h r : ℕ) → currentAnswer (givenCable (ratedA rated)) h r minutes ≡ currentFrom rated h r (sharePair (alone (ratedA rated)) minutes)
+  unfolding currentOf inUse
+  current-given h r = rw (given, currentOf, share-given)
 
 pub C5 : Meant (any-minutes (current cableA 100 100) (values (400 ∷ [])))
-unfolding checked outsideField currentFrom
-C5 minutes from to = rw (current-given 400 refl minutes from to 100 100, at-limit 400 100 100 400 refl (omega arith) (omega arith) (omega arith) (sharePair cableA minutes .high) (high-some 400 refl minutes from to))
+unfolding givenCable checked outsideField currentFrom
+C5 minutes from to = rw (current-given 400 refl minutes from to 100 100, at-limit 400 100 100 400 refl (omega arith) (omega arith) (omega arith) (sharePair (alone cableA) minutes .high) (high-some 400 refl minutes from to))
 
 pub C6 : Meant (any-minutes (current cableA 50 25) (values (200 ∷ [])))
-unfolding checked outsideField currentFrom
-C6 minutes from to = rw (current-given 400 refl minutes from to 50 25, at-limit 400 50 25 200 refl (omega arith) (omega arith) (omega arith) (sharePair cableA minutes .high) (high-some 400 refl minutes from to))
+unfolding givenCable checked outsideField currentFrom
+C6 minutes from to = rw (current-given 400 refl minutes from to 50 25, at-limit 400 50 25 200 refl (omega arith) (omega arith) (omega arith) (sharePair (alone cableA) minutes .high) (high-some 400 refl minutes from to))
 
 pub C7 : Meant (any-minutes (current cableA 51 25) (refusal 13 None))
-unfolding checked outsideField currentFrom
+unfolding givenCable checked outsideField currentFrom
 C7 minutes from to = rw (current-given 400 refl minutes from to 51 25)
 
 pub C8 : Meant (any-minutes (current (ratedA 401) 50 25) (values (200 ∷ [])))
-unfolding checked outsideField currentFrom
-C8 minutes from to = rw (current-given 401 refl minutes from to 50 25, at-limit 401 50 25 200 refl (omega arith) (omega arith) (omega arith) (sharePair (ratedA 401) minutes .high) (high-some 401 refl minutes from to))
+unfolding givenCable checked outsideField currentFrom
+C8 minutes from to = rw (current-given 401 refl minutes from to 50 25, at-limit 401 50 25 200 refl (omega arith) (omega arith) (omega arith) (sharePair (alone (ratedA 401)) minutes .high) (high-some 401 refl minutes from to))

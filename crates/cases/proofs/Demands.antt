@@ -1,41 +1,60 @@
 -- Demand 3 follows from the contracts of the four calls, for every answer that is no refusal: what a contract no longer says cannot be taken from it.
-use mathlib.Core.Path.{_≡_, refl, sym}
-use mathlib.Core.List.{List}
+use mathlib.Core.Path.{_≡_, refl, sym, ap, _∙_}
+use mathlib.Core.List.{List, _∷_}
 use Prim.Native.Nat.{ℕ}
+use lib.IntN.{ℤ}
 use lib.ListN.{length}
 use Rattle.bounds.specs.declared.Bounds.{Bounds}
+use Rattle.refusals.specs.Stated.{Stated, statedValues, statedRefusal}
+use Rattle.refusals.specs.declared.Refusal.{Refusal}
+use Rattle.refusals.proofs.Stated.{no-values}
+use Rattle.cable.specs.Checks.{inUse}
+use Rattle.cable.specs.Group.{Given, accepted, refused, alone, givenCable}
 use Rattle.cable.specs.declared.Cable.{Cable}
-use Rattle.share.specs.Answer.{ShareSaid}
+use Rattle.cable.proofs.Acceptance.{given-alone, given-sound}
+use Rattle.share.specs.Answer.{shareFrom, shareAnswer, statedShare, ShareSaid}
 use Rattle.share.specs.declared.ShareAnswer.the-variants as S
 use Rattle.share.proofs.Promises.{answered-accepted, answered-gap}
-use Rattle.distance.proofs.Enclosed.{exact-share-bounds}
+use Rattle.share.proofs.Rising.{exact-share-bounds}
 use Rattle.history.specs.Answer.{RiseSaid}
 use Rattle.history.specs.declared.RiseAnswer.the-variants as R
 use Rattle.history.proofs.Said.{rise-steps, exact-rise-bounds}
-use Rattle.cycle.specs.Answer.{FactorSaid}
+use Rattle.cycle.specs.Answer.{hourPair, factorFrom, factorAnswer, statedFactor, FactorSaid}
 use Rattle.cycle.specs.declared.FactorAnswer.the-variants as F
 use Rattle.cycle.proofs.Said.{exact-heating-bounds, factor-below-cap}
-use Rattle.emergency.specs.Answer.{CurrentSaid}
+use Rattle.emergency.specs.Answer.{currentOf, currentAnswer, statedCurrent, CurrentSaid}
 use Rattle.emergency.specs.declared.CurrentAnswer.the-variants as C
 use Rattle.emergency.proofs.Said.{current-share-bounds}
 use Rattle.cases.specs.Demands.{ShareDemand, RiseDemand, FactorDemand, CurrentDemand}
 
-pub share-demand : (cable : Cable) (minutes : ℕ) (b : Bounds) → ShareSaid cable minutes (S.Pair b) → ShareDemand cable minutes (b .low) (b .high)
+-- values are stated of an accepted cable alone, and what it gives is itself, alone in its trench
+module _ (cable : Cable) (stated : Given → Stated) (refusals : (f : Refusal) → stated (refused f) ≡ statedRefusal f) {x : ℤ} {xs : List ℤ} where
+  of-given : (given : Given) → givenCable cable ≡ given → stated given ≡ statedValues (x ∷ xs) → givenCable cable ≡ accepted (alone cable)
+  of-given (accepted g) e p = e ∙ ap accepted (sym (given-alone cable e .1))
+  of-given (refused f) e p = absurd (no-values f (sym (refusals f) ∙ p))
+
+  stated-given : stated (givenCable cable) ≡ statedValues (x ∷ xs) → givenCable cable ≡ accepted (alone cable)
+  stated-given p = of-given (givenCable cable) refl p
+
+pub share-demand : (cable : Cable) (minutes : ℕ) (b : Bounds) → ShareSaid (givenCable cable) minutes (S.Pair b) → ShareDemand cable minutes (b .low) (b .high)
 share-demand cable minutes b said =
-    let p = said .distance (b .low) (b .high) refl in
-    let given = sym (said .answer) in
+    let is = stated-given cable (λ x. statedShare (shareAnswer x minutes)) (λ f. refl) (ap statedShare (sym (said .answer))) in
+    let p = said .distance (alone cable) is (b .low) (b .high) refl in
+    let a = given-sound cable (alone cable) is in
+    let given : shareFrom (alone cable) minutes ≡ S.Pair b = sym (ap (λ x. shareAnswer x minutes) is) ∙ sym (said .answer) in
     record {
       from-0 = p .range .low-from;
       ordered = p .ordered;
       to-million = p .range .high-to;
-      low-at-most = p .low-at-most;
-      high-at-least = p .high-at-least;
+      low-at-most = p .around .low-at-most;
+      high-at-least = p .around .high-at-least;
       within-50 = p .narrow;
-      bounded = record { bounds = exact-share-bounds cable minutes (answered-accepted cable minutes given) };
-      some-gap = answered-gap cable minutes given;
+      bounded = record { bounds = exact-share-bounds (alone cable) minutes (answered-accepted (alone cable) minutes given a) };
+      some-gap = answered-gap (alone cable) a minutes given;
     }
 
 pub rise-demand : (s : List ℕ) (b : Bounds) → RiseSaid s (R.Rise b) → RiseDemand s (b .low) (b .high)
+unfolding inUse
 rise-demand s b said =
     let p = said .distance (b .low) (b .high) refl in
     record {
@@ -47,18 +66,24 @@ rise-demand s b said =
     }
 
 -- "one array of twenty-four hourly amperes"
-pub factor-demand : (cable : Cable) (hours : List ℕ) (m : ℕ) → length hours ≡ 24 → FactorSaid cable hours (F.Factor m) → FactorDemand cable hours m
+pub factor-demand : (cable : Cable) (hours : List ℕ) (m : ℕ) → length hours ≡ 24 → FactorSaid (givenCable cable) hours (F.Factor m) → FactorDemand cable hours m
 factor-demand cable hours m l said =
-    let p = said .distance m refl in
-    let given = sym (said .answer) in
+    let is = stated-given cable (λ x. statedFactor (factorAnswer x hours)) (λ f. refl) (ap statedFactor (sym (said .answer))) in
+    let p = said .distance (alone cable) is m refl in
+    let a = given-sound cable (alone cable) is in
+    let given : factorFrom (hourPair (alone cable)) hours ≡ F.Factor m = sym (ap (λ x. factorAnswer x hours) is) ∙ sym (said .answer) in
     record {
       not-above = p .not-above;
       larger-above = p .larger-above;
-      bounded = record { bounds = exact-heating-bounds cable hours l given };
-      below-cap = factor-below-cap cable hours l given;
+      bounded = record { bounds = exact-heating-bounds (alone cable) a hours l given };
+      below-cap = factor-below-cap (alone cable) a hours l given;
     }
 
-pub current-demand : (cable : Cable) (h r minutes i : ℕ) → CurrentSaid cable h r minutes (C.Current i) → CurrentDemand cable h r minutes i
+pub current-demand : (cable : Cable) (h r minutes i : ℕ) → CurrentSaid (givenCable cable) h r minutes (C.Current i) → CurrentDemand cable h r minutes i
+unfolding inUse
 current-demand cable h r minutes i said =
-    let p = said .distance i refl in
-    record { keeps = p .keeps; larger-breaks = p .larger-breaks; bounded = record { bounds = current-share-bounds cable h r minutes (sym (said .answer)) } }
+    let is = stated-given cable (λ x. statedCurrent (currentAnswer x h r minutes)) (λ f. refl) (ap statedCurrent (sym (said .answer))) in
+    let p = said .distance (alone cable) is i refl in
+    let a = given-sound cable (alone cable) is in
+    let given : currentOf (alone cable) h r minutes ≡ C.Current i = sym (ap (λ x. currentAnswer x h r minutes) is) ∙ sym (said .answer) in
+    record { keeps = p .keeps; larger-breaks = p .larger-breaks; bounded = record { bounds = current-share-bounds (alone cable) a h r minutes given } }

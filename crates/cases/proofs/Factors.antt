@@ -19,15 +19,17 @@ use Rattle.numbers.proofs.Largest.{found-largest}
 use Rattle.bounds.specs.Operations.{pointB, addB, mulB, dividedB}
 use Rattle.bounds.specs.declared.Bounds.{Bounds}
 use Rattle.cable.specs.Checks.{outsideField, checked}
+use Rattle.cable.specs.Group.{alone, givenCable}
 use Rattle.share.specs.Pair.{sharePair}
 use Rattle.share.proofs.Promises.{share-promised}
 use Rattle.cycle.specs.Day.{highestLoad, highestOf, squaredLoads}
 use Rattle.cycle.specs.Heating.{relativeLoad, gatheredBounds, heatingBounds, heatingSum, referenceHour}
 use Rattle.cycle.specs.Factor.{allowed, mostHeating, largestFactor}
-use Rattle.cycle.specs.Answer.{firstAbove, allZero, factorFrom, factorAnswer, hourPair}
+use Rattle.cycle.specs.Answer.{firstAbove, allZero, factorFrom, hourPair}
 use Rattle.cycle.specs.declared.FactorAnswer.the-variants.{Factor}
 use Rattle.cycle.proofs.FactorTest.{allowed-falls}
 use Rattle.cycle.proofs.ReferenceHour.{is-latest-largest, latest-one}
+use Rattle.cable.proofs.Acceptance.{given-sound}
 use Rattle.cycle.proofs.Said.{largest-sum-to}
 use Rattle.cases.specs.Table.{Meant, gives, any-hour, factor, values, oneHour, cableA, cableB}
 use Rattle.cases.proofs.Shares.{accepted-B, low-below-all, by-order, all-of-B}
@@ -109,9 +111,9 @@ unfolding allowed
 factor-of-one = sym (found-largest (allowed-falls (pos 1000000)) (omega arith) refl (λ h. refl))
 
 pub C3 : Meant (gives (factor cableA (replicate 24 200)) (values (1000 ∷ [])))
-unfolding factorAnswer checked outsideField
+unfolding givenCable checked outsideField
 C3 =
-    let pairs = hourPair cableA in
+    let pairs = hourPair (alone cableA) in
     let hour = referenceHour pairs (replicate 24 200) in
     rw (
       day-factor pairs (replicate 24 200) refl refl,
@@ -176,7 +178,7 @@ module _ (pairs : ℕ → Bounds) (all : pos 1000000 ≤ℤ pairs 1 .high) (most
       ≤ℤ-trans (subst (λ (b : Bounds). pos 1000001 ≤ℤ b .high) (sym day) one-hour-quotient) (is-latest-largest (heatingSum pairs hours) 24 .largest hour h)
 
 -- at order 4 the sum of e^360 has passed 10^8
-full-60 : pos 1000000 ≤ℤ sharePair cableB 60 .high
+full-60 : pos 1000000 ≤ℤ sharePair (alone cableB) 60 .high
 full-60 = all-of-B 60 (accepted-B 60 (omega arith) (omega arith)) (by-order (1 per 100000000) _ 4 tt)
 
 -- no hour is above 4,000 A, and the one hour is the highest load
@@ -194,14 +196,14 @@ accepted-day hour h =
     record { none-above = cc; some = some-load (allZero hours) z; loaded = omega arith }
 
 pub C4 : Meant (any-hour (λ hour. factor cableB (oneHour hour 400)) (values (999 ∷ [])))
-unfolding factorAnswer checked outsideField
+unfolding givenCable checked outsideField
 C4 hour from to =
-    let pairs = hourPair cableB in
+    let pairs = hourPair (alone cableB) in
     let hours = oneHour hour 400 in
     let a = accepted-B 360 (omega arith) (omega arith) in
-    let low = low-below-all _ 360 a _ (share-promised cableB 360 a) in
+    let low = low-below-all _ 360 a _ (share-promised (alone cableB) 360 a) in
     let day = accepted-day hour (omega arith) in
     rw (
       day-factor pairs hours (day .none-above) (day .some),
-      factor-999 (heatingSum pairs hours (referenceHour pairs hours)) (one-hour-sum pairs full-60 low hour (omega arith)) (largest-sum-to cableB {c = cableB} refl hours (day .loaded)),
+      factor-999 (heatingSum pairs hours (referenceHour pairs hours)) (one-hour-sum pairs full-60 low hour (omega arith)) (largest-sum-to (alone cableB) (given-sound cableB (alone cableB) refl) hours (day .loaded)),
     )

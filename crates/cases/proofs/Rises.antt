@@ -7,7 +7,8 @@ use Rattle.numbers.specs.Integer.{lesser, greater}
 use Rattle.numbers.specs.Rounding.{floorZ, ceilZ}
 use Rattle.bounds.specs.Operations.{pointB, addB, mulB, dividedB}
 use Rattle.bounds.specs.declared.Bounds.{Bounds}
-use Rattle.cable.specs.Checks.{outsideField, checked}
+use Rattle.cable.specs.Checks.{outsideField, checked, inUse}
+use Rattle.cable.specs.Group.{alone}
 use Rattle.share.specs.Pair.{sharePair}
 use Rattle.sheet.specs.BigEndian.{bigEndian}
 use Rattle.sheet.specs.Layout.{wrongLength}
@@ -30,5 +31,5 @@ unfolding riseOf sumOf addB dividedB floorZ ceilZ
 same-load pairs = rw (none-of (pairs 60), none-of (pairs 30))
 
 pub C2 : Meant (gives (rise (sheet cableA (300 ∷ 1 ∷ 60 ∷ 300 ∷ 2 ∷ 30 ∷ 300 ∷ 0 ∷ []))) (values (562500 ∷ 562500 ∷ [])))
-unfolding riseAnswer checkedHeader wrongLength checked outsideField cableOf bigEndian chainFrom checkedRecord recordAt recordOf
-C2 = rw (same-load (sharePair cableA))
+unfolding riseAnswer checkedHeader wrongLength checked outsideField cableOf bigEndian chainFrom checkedRecord recordAt recordOf inUse
+C2 = rw (same-load (sharePair (alone cableA)))

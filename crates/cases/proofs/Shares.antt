@@ -15,18 +15,20 @@ use Rattle.numbers.proofs.Strict.{below-of, below-not, le-strict, strict-le}
 use Rattle.numbers.proofs.Integers.{le-lin, lin-le}
 use Rattle.exact.specs.Exponential.{expSum}
 use Rattle.exact.specs.Value.{AtMost, AtLeast, inMillionths, fromOne}
-use Rattle.exact.specs.Share.{CableNumbers, Accepted, exponent, share}
+use Rattle.exact.specs.Share.{CableNumbers, Accepted, none, exponent, share}
 use Rattle.exact.proofs.Certified.{Above, below-zero}
 use Rattle.exact.proofs.Share.{shareP, attainmentP, share-risesP, share-okP, attainment-okP, fine-attainmentP}
 use Rattle.exact.proofs.ShareRange.{topOrder, share-below-oneP, bottomOrder, share-above-zeroP}
 use Rattle.exact.proofs.SignedShare.{share-plain}
 use Rattle.exact.proofs.Pairs.{most-millionths, least-millionths, around-exp, around-attainment, share-high-attainment, share-low-attainment}
-use Rattle.cable.specs.Checks.{outsideField, checked, inUse, defaultDiffusivity}
-use Rattle.cable.specs.InRange.{numbersOf}
+use Rattle.cable.specs.Checks.{outsideField, checked, inUse}
+use Rattle.cable.specs.Group.{alone, givenCable}
+use Rattle.cable.specs.InRange.{numbersIn}
+use Rattle.distance.specs.Promised.{Promised}
 use Rattle.bounds.specs.declared.Bounds.{Bounds}
-use Rattle.share.specs.Promises.{shareWidth, Promised}
+use Rattle.share.specs.Promises.{shareWidth}
 use Rattle.share.specs.Pair.{sharePair}
-use Rattle.share.specs.Answer.{shareAnswer}
+use Rattle.share.specs.Answer.{shareFrom}
 use Rattle.share.proofs.Promises.{share-promised}
 use Rattle.cases.specs.Table.{Meant, around, cableB, slowB}
 use Rattle.cases.specs.Table as Table
@@ -41,7 +43,7 @@ module _ (c : CableNumbers) (m : ℕ) (a : Accepted c m) (b : Bounds) (p : Promi
   module _ (n : ℕ) (t : T (fromOne n)) where
     -- a whole number above the share's upper fraction is above low
     low-most : (v : ℕ) → whole 1000000 ⊗ shareP c m .high n ≺ whole (v + 1) → b .low ≤ℤ pos v
-    low-most v h = go (b .low) (p .low-at-most)
+    low-most v h = go (b .low) (p .around .low-at-most)
       where
         go : (z : ℤ) → AtMost (ofInt z) (inMillionths (share c m)) → z ≤ℤ pos v
         go (pos u) k = under (le-strict (most-millionths (share-plain c m a) (share-risesP c m m a a (le-refl m)) k n (share-okP c m a n t)) h)
@@ -52,7 +54,7 @@ module _ (c : CableNumbers) (m : ℕ) (a : Accepted c m) (b : Bounds) (p : Promi
 
     -- a whole number with the share's lower fraction above the one before it is at most high
     high-least : (v : ℕ) → whole v ≺ whole 1000000 ⊗ shareP c m .low n → pos (v + 1) ≤ℤ b .high
-    high-least v h = go (b .high) (p .high-at-least) (p .range .high-from)
+    high-least v h = go (b .high) (p .around .high-at-least) (p .range .high-from)
       where
         go : (z : ℤ) → AtLeast (ofInt z) (inMillionths (share c m)) → pos 0 ≤ℤ z → pos (v + 1) ≤ℤ z
         go (pos u) k z = over (strict-le h (least-millionths (share-plain c m a) (share-risesP c m m a a (le-refl m)) k n (share-okP c m a n t)))
@@ -92,34 +94,34 @@ module _ (c : CableNumbers) (m : ℕ) (a : Accepted c m) (b : Bounds) (p : Promi
 below : (a b : Frac) → T (leb (suc (a .num * b .den)) (b .num * a .den)) → a ≺ b
 below a b h = record { cross = leb→le _ _ h }
 
-pub accepted-B : (minutes : ℕ) → 1 ≤ minutes → minutes ≤ 2880 → Accepted (numbersOf (inUse defaultDiffusivity cableB)) minutes
+pub accepted-B : (minutes : ℕ) → 1 ≤ minutes → minutes ≤ 2880 → Accepted (numbersIn (alone cableB)) minutes
 unfolding inUse
-accepted-B minutes from to = omega arith
+accepted-B minutes from to = record { cable = omega arith; neighbours = none; minutes-from = from; minutes-to = to }
 
-accepted-slow : Accepted (numbersOf (inUse defaultDiffusivity slowB)) 1
+accepted-slow : Accepted (numbersIn (alone slowB)) 1
 unfolding inUse
-accepted-slow = omega arith
+accepted-slow = record { cable = omega arith; neighbours = none; minutes-from = omega arith; minutes-to = omega arith }
 
 pub C9 : Meant (around (Table.share cableB 1) 997521 997522)
-unfolding inUse _∸_ shareAnswer checked outsideField
+unfolding inUse _∸_ givenCable shareFrom checked outsideField
 C9 =
     let a = accepted-B 1 (omega arith) (omega arith) in
-    let p = share-promised cableB 1 a in
+    let p = share-promised (alone cableB) 1 a in
     record {
-      low = sharePair cableB 1 .low;
-      high = sharePair cableB 1 .high;
+      low = sharePair (alone cableB) 1 .low;
+      high = sharePair (alone cableB) 1 .high;
       given = refl;
       low-to = low-under _ 1 a _ p refl 30 tt 997521 (below _ _ tt);
       high-from = high-over _ 1 a _ p refl 30 tt 997521 (below _ _ tt);
     }
 
 pub C10 : Meant (around (Table.share slowB 1) 59 60)
-unfolding inUse _∸_ shareAnswer checked outsideField
+unfolding inUse _∸_ givenCable shareFrom checked outsideField
 C10 =
-    let p = share-promised slowB 1 accepted-slow in
+    let p = share-promised (alone slowB) 1 accepted-slow in
     record {
-      low = sharePair slowB 1 .low;
-      high = sharePair slowB 1 .high;
+      low = sharePair (alone slowB) 1 .low;
+      high = sharePair (alone slowB) 1 .high;
       given = refl;
       low-to = low-under _ 1 accepted-slow _ p refl 4 tt 59 (below _ _ tt);
       high-from = high-over _ 1 accepted-slow _ p refl 4 tt 59 (below _ _ tt);
@@ -130,9 +132,9 @@ C10 =
 pub by-order : (e x : Frac) (n : ℕ) → T (1F ≼? e ⊗ expSum x n) → Above e x
 by-order e x n t = record { order = n; reaches = test-is 1F (e ⊗ expSum x n) t }
 
-pub all-of-B : (m : ℕ) (a : Accepted (numbersOf (inUse defaultDiffusivity cableB)) m) → Above (1 per 100000000) (exponent 100000 m) → pos 1000000 ≤ℤ sharePair cableB m .high
+pub all-of-B : (m : ℕ) (a : Accepted (numbersIn (alone cableB)) m) → Above (1 per 100000000) (exponent 100000 m) → pos 1000000 ≤ℤ sharePair (alone cableB) m .high
 unfolding inUse _∸_
 all-of-B m a h =
     let x = exponent 100000 m in
-    high-past _ m a _ (share-promised cableB m a) refl _ (1 per 100000000) (omega arith)
-    (λ n t. around-attainment (numbersOf (inUse defaultDiffusivity cableB)) m (around-exp (below-zero x) h) (around-exp (below-zero x) h) .most n t) 999999 (below _ _ tt)
+    high-past _ m a _ (share-promised (alone cableB) m a) refl _ (1 per 100000000) (omega arith)
+    (λ n t. around-attainment (numbersIn (alone cableB)) m (around-exp (below-zero x) h) (around-exp (below-zero x) h) .most n t) 999999 (below _ _ tt)

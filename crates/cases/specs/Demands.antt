@@ -11,7 +11,8 @@ use Rattle.numbers.specs.Signed.{ofInt}
 use Rattle.exact.specs.Value.{Value, AtMost, AtLeast, fromOne, inMillionths, integer, _+ᵥ_, _·ᵥ_, largestᵥ}
 use Rattle.exact.specs.Share.{share}
 use Rattle.cable.specs.Checks.{inUse}
-use Rattle.cable.specs.InRange.{numbersOf}
+use Rattle.cable.specs.Group.{only}
+use Rattle.cable.specs.InRange.{numbersIn}
 use Rattle.cable.specs.declared.Cable.{Cable}
 use Rattle.share.specs.Promises.{MillionthGap}
 use Rattle.sheet.specs.Header.{cableOf, startingCurrent}
@@ -26,7 +27,7 @@ pub record Bounded (x : Value) : Type 0 where
 
 -- The exact G of a cable after some minutes, in millionths; a diffusivity of 0 "stands for 500".
 abbrev pub exactG : Cable → ℕ → Value
-exactG cable minutes = inMillionths (share (numbersOf (inUse 500 cable)) minutes)
+exactG cable minutes = inMillionths (share (numbersIn (only (inUse 500 cable))) minutes)
 
 -- ---- the share of a cable after some minutes
 
@@ -40,7 +41,7 @@ pub record ShareDemand (cable : Cable) (minutes : ℕ) (low high : ℤ) : Type 0
   pub within-50 : high ≤ℤ (low +ℤ pos 50)
   pub bounded : Bounded (exactG cable minutes)
   -- "for every accepted cable and minute count some order has a gap below one millionth"
-  pub some-gap : MillionthGap (share (numbersOf (inUse 500 cable)) minutes)
+  pub some-gap : MillionthGap (share (numbersIn (only (inUse 500 cable))) minutes)
 
 -- ---- the rise of a sheet
 

@@ -8,10 +8,11 @@ use lib.IntN.{ℤ, pos}
 use lib.ListN.{replicate, set, take}
 use lib.Signed.{_≤ℤ_}
 use Rattle.cable.specs.Checks.{fields}
-use Rattle.cable.specs.Stated.{Stated, statedValues, statedRefusal}
+use Rattle.refusals.specs.Stated.{Stated, statedValues, statedRefusal}
+use Rattle.cable.specs.Group.{givenCable}
 use Rattle.cable.specs.declared.Cable.{Cable}
-use Rattle.cable.specs.declared.Place.{Place}
-use Rattle.cable.specs.declared.Place.the-variants.{None, Field, Record, Hour, Input}
+use Rattle.refusals.specs.declared.Place.{Place}
+use Rattle.refusals.specs.declared.Place.the-variants.{None, Field, Record, Hour, Input}
 use Rattle.share.specs.Answer.{shareAnswer, statedShare}
 use Rattle.sheet.specs.Layout.{wrongLength}
 use Rattle.history.specs.Answer.{riseAnswer, statedRise}
@@ -32,10 +33,10 @@ pub data Question : Type 0 where
 
 -- in the paper's numbers
 abbrev pub answer : Question → Stated
-answer (share c minutes) = statedShare (shareAnswer c minutes)
+answer (share c minutes) = statedShare (shareAnswer (givenCable c) minutes)
 answer (rise sheet) = statedRise (riseAnswer sheet)
-answer (factor c hours) = statedFactor (factorAnswer c hours)
-answer (current c h r minutes) = statedCurrent (currentAnswer c h r minutes)
+answer (factor c hours) = statedFactor (factorAnswer (givenCable c) hours)
+answer (current c h r minutes) = statedCurrent (currentAnswer (givenCable c) h r minutes)
 
 pub data Says : Type 0 where
   gives : Question → Stated → Says

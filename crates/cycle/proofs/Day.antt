@@ -12,6 +12,8 @@ use borrow.Author.Tests.{leb-true, leb-false, ltb-true, ltb-false, le-ltb, lt-lt
 use lib.Dec.{leb, ltb, eqb}
 use lib.ListN.{length, drop, getD}
 use lib.Seq.{drop-cons, drop-length}
+use mir.Syntax.{w16}
+use mir.Val.{Fits}
 use Rattle.cycle.specs.Day.{load, highestOf, squaredLoad, squaredLoads}
 use Rattle.cycle.specs.Answer.{mostAmperes, firstAbove, allZero}
 
@@ -56,6 +58,14 @@ highest-summed hours (suc n) = either (leb (highestOf hours n) (load hours n)) (
     either false a b e h = rw (max-eq-left {n = a} {m = b} (omega (arith, leb-false a b e))) (omega arith)
 
 -- ---- the sum of the squares
+
+-- 65,535² A²
+abbrev pub mostSquare : ℕ
+mostSquare = 65535 * 65535
+
+-- no load of 16 bits has a larger square
+pub square-to : {x n : ℕ} → n ≡ x * x → Fits w16 x → n ≤ mostSquare
+square-to {x} e f = let h : x ≤ 65535 = omega arith in omega (arith, mul-le-mul h h)
 
 pub squares-more : (hours : List ℕ) (k s a : ℕ) → s ≡ squaredLoads hours k → a ≡ squaredLoad hours k → s + a ≡ squaredLoads hours (k + 1)
 unfolding squaredLoads

@@ -13,7 +13,7 @@ use lib.Signed.{_≤ℤ_}
 use Rattle.numbers.specs.Fraction.{whole}
 use Rattle.numbers.specs.Signed.{ofInt, ofFrac}
 use Rattle.numbers.specs.Largest.{Largest}
-use Rattle.numbers.proofs.Integers.{lin-le}
+use Rattle.numbers.proofs.Integers.{leZ-true, lin-le}
 use Rattle.numbers.proofs.Largest.{is-largest}
 use Rattle.numbers.proofs.SignedFractions.{refl≼ₛ}
 use Rattle.bounds.specs.declared.Bounds.{Bounds}
@@ -24,7 +24,8 @@ use Rattle.distance.specs.Around.{Around}
 use Rattle.distance.proofs.Around.{around-integer, around-add, around-times, around-divided}
 use Rattle.distance.proofs.Spread.{Spread, spread-point, spread-more, spread-add, spread-times, spread-quotient, quotient-bounds, most-below, most-times, least-above, least-times}
 use Rattle.distance.proofs.Enclosed.{Enclosed, enclosed-around, enclosed-spread}
-use Rattle.share.specs.Promises.{shareWidth}
+use Rattle.cable.specs.Group.{Group}
+use Rattle.share.specs.Promises.{widthOf}
 use Rattle.cycle.specs.Heating.{heatingHours, commonDivisor, relativeLoad, gatheredLoad, gatheredBounds, heatingBounds, heatingSum}
 use Rattle.cycle.specs.Factor.{mostFactor, mostHeating, allowed, largestFactor}
 use Rattle.cycle.specs.Exact.{exactGathered, exactHeating, sumWidth, FactorDistance}
@@ -98,7 +99,7 @@ module _ (shares : ℕ → Value) (o : ℕ) (each : (i : ℕ) → i < heatingHou
 
 within-heating : (sum : ℤ) (m : ℕ) → allowed sum m ≡ true → (pos (m * m) *ℤ sum) ≤ℤ pos mostHeating
 unfolding allowed
-within-heating sum m e = rw (*ℤ-comm (pos (m * m)) sum) (record { le = rw e tt })
+within-heating sum m e = rw (*ℤ-comm (pos (m * m)) sum) (leZ-true e)
 
 -- from a factor that is not allowed on, the squares times the sum are above 10^12
 past-heating : (sum : ℤ) (m k : ℕ) → allowed sum m ≡ false → m ≤ k → pos (mostHeating + 1) ≤ℤ (pos (k * k) *ℤ sum)
@@ -122,5 +123,5 @@ module _ (width : ℕ) (heating : Value) (sound : heating ⊴ heating) (sum : �
       }
 
 -- "T + 301"
-pub sum-width-is : sumWidth shareWidth ≡ 301
-sum-width-is = refl
+pub sum-width-is : (g : Group) → sumWidth (widthOf g) ≡ 301
+sum-width-is g = refl

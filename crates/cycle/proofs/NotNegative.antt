@@ -1,6 +1,5 @@
--- No heating sum of an accepted cable is below 0. Pairs in their range alone do not say so. But no low share exceeds a later high one, so some G never
+-- No heating sum of an accepted group is below 0. Pairs in their range alone do not say so. But no low share exceeds a later high one, so some G never
 -- falls and lies in every pair: the sum as it is written is not below 0 for it, and the rounded sum is at least that.
-use mathlib.Core.Path.{_≡_}
 use mathlib.Core.List.{List}
 use Prim.Native.Nat.{ℕ, zero, suc, _*_, _≤_, _<_}
 use native.Mathlib.Nat.{le-refl}
@@ -12,12 +11,11 @@ use Rattle.numbers.proofs.Integers.{≤ℤ-trans, add-term, factor-not-negative
 use Rattle.bounds.specs.Promises.{In}
 use Rattle.bounds.specs.declared.Bounds.{Bounds}
 use Rattle.bounds.proofs.Enclosure.{over-one}
-use Rattle.cable.specs.Checks.{checked}
-use Rattle.cable.specs.declared.Cable.{Cable}
-use Rattle.cable.specs.declared.CableCheck.the-variants as C
-use Rattle.share.specs.Promises.{Millionths}
+use Rattle.cable.specs.Group.{Group}
+use Rattle.cable.specs.InRange.{Acceptable}
+use Rattle.distance.specs.Promised.{Millionths}
 use Rattle.share.proofs.Promises.{share-pair-range}
-use Rattle.distance.proofs.Rising.{low-at-most-later-high}
+use Rattle.share.proofs.Rising.{low-at-most-later-high}
 use Rattle.cycle.specs.Heating.{heatingHours, commonDivisor, relativeLoad, fromStart, writtenSteps, writtenSum, heatingSum}
 use Rattle.cycle.specs.Answer.{hourPair}
 use Rattle.cycle.proofs.Heating.{heating-in}
@@ -69,13 +67,13 @@ module _ (pairs : ℕ → Bounds) where
         factor-not-negative (heatingSum pairs hours hour) (commonDivisor hours * 1) (omega arith)
         (≤ℤ-trans (written-not-negative hours hour greatestLow never-falls (pos 1000000) to-one) (heating-in hours hour 1 greatestLow pairs in-each h .to))
 
--- ---- the pairs of an accepted cable
+-- ---- the pairs of an accepted group
 
-pub sum-not-negative : (cable : Cable) {c : Cable} → checked cable ≡ C.Accepted c → (hours : List ℕ) (hour : ℕ) → 0 < commonDivisor hours → pos 0 ≤ℤ heatingSum (hourPair cable) hours hour
-sum-not-negative cable e =
-    sum-not-negative-of (hourPair cable)
+pub sum-not-negative : (g : Group) → Acceptable g → (hours : List ℕ) (hour : ℕ) → 0 < commonDivisor hours → pos 0 ≤ℤ heatingSum (hourPair g) hours hour
+sum-not-negative g a =
+    sum-not-negative-of (hourPair g)
     (record {
-      range = λ i h. share-pair-range cable (60 * suc i);
+      range = λ i h. share-pair-range g (60 * suc i);
       low-to-later-high =
-          λ j i h k. low-at-most-later-high cable (60 * suc j) (60 * suc i) (hour-accepted cable e j (omega arith)) (hour-accepted cable e i k) (omega arith);
+          λ j i h k. low-at-most-later-high g (60 * suc j) (60 * suc i) (hour-accepted g a j (omega arith)) (hour-accepted g a i k) (omega arith);
     })

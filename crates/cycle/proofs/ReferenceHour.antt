@@ -45,6 +45,6 @@ module _ (sums : ℕ → ℤ) where
       either true b p = omega arith
       either false b p = omega arith
 
--- .. and of more than they are
+-- so of any n that are at least as many; wider than its use, so that a rule over fewer hours is refused by `largest-at-least`, which it breaks
 pub latest-within : (sums : ℕ → ℤ) (k : ℕ) {n : ℕ} → 0 < k → k ≤ n → latestLargest sums k < n
 latest-within sums k z h = omega (arith, latest-one sums k z)

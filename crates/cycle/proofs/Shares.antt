@@ -14,7 +14,7 @@ use lib.Seq.{getD-set-same, getD-set-other}
 use Rattle.bounds.specs.Operations.{pointB}
 use Rattle.bounds.specs.Promises.{Sized}
 use Rattle.bounds.specs.declared.Bounds.{Bounds}
-use Rattle.cable.specs.declared.Cable.{Cable}
+use Rattle.cable.specs.Group.{Group}
 use Rattle.cycle.specs.Day.{dayHours, highestLoad}
 use Rattle.cycle.specs.Heating.{heatingHours, gatheredBounds, heatingBounds, heatingSum, latestLargest, referenceHour}
 use Rattle.cycle.specs.Answer.{hourPair}
@@ -22,20 +22,20 @@ use Rattle.cycle.specs.Asked.{pairsOf, Shared}
 use Rattle.cycle.proofs.Answers.{hour-sized}
 
 -- the first i of six are there
-pub record Filled (cable : Cable) (shares : List Bounds) (i : ℕ) : Type 0 where
+pub record Filled (g : Group) (shares : List Bounds) (i : ℕ) : Type 0 where
   pub six : length shares ≡ heatingHours
-  pub filled : (j : ℕ) → j < i → pairsOf shares (suc j) ≡ hourPair cable (suc j)
+  pub filled : (j : ℕ) → j < i → pairsOf shares (suc j) ≡ hourPair g (suc j)
 
-pub none-filled : {cable : Cable} {shares : List Bounds} → length shares ≡ heatingHours → Filled cable shares 0
+pub none-filled : {g : Group} {shares : List Bounds} → length shares ≡ heatingHours → Filled g shares 0
 none-filled e = record { six = e; filled = λ j h. absurd (omega arith) }
 
-pub next-filled : {cable : Cable} {shares : List Bounds} {i : ℕ} {p : Bounds} → Filled cable shares i → i < heatingHours → p ≡ hourPair cable (suc i) → Filled cable (set shares i p) (i + 1)
-next-filled {cable} {shares} {i} {p} f h e =
+pub next-filled : {g : Group} {shares : List Bounds} {i : ℕ} {p : Bounds} → Filled g shares i → i < heatingHours → p ≡ hourPair g (suc i) → Filled g (set shares i p) (i + 1)
+next-filled {g} {shares} {i} {p} f h e =
     let none = pointB (pos 0) in
     record {
       six = length-set shares i p ∙ f .six;
       filled =
-          below-more (λ j. pairsOf (set shares i p) (suc j) ≡ hourPair cable (suc j)) i (λ j l. getD-set-other shares i j p none (λ q. omega arith) ∙ f .filled j l)
+          below-more (λ j. pairsOf (set shares i p) (suc j) ≡ hourPair g (suc j)) i (λ j l. getD-set-other shares i j p none (λ q. omega arith) ∙ f .filled j l)
           (getD-set-same shares i p none (omega (arith, f .six)) ∙ e);
     }
 
@@ -45,23 +45,23 @@ unfolding latestLargest
 latest-same f g e zero = refl
 latest-same f g e (suc n) = rw (latest-same f g e n, e n, e (latestLargest g n)) refl
 
-module _ {cable : Cable} {shares : List Bounds} (f : Filled cable shares heatingHours) (hours : List ℕ) where
+module _ {g : Group} {shares : List Bounds} (f : Filled g shares heatingHours) (hours : List ℕ) where
   pub filled-shared : 0 < highestLoad hours → Shared shares hours
   filled-shared z = record { sized = λ i. by i (ltb i heatingHours) refl; loaded = z }
     where
       by : (i : ℕ) (t : Bool) → ltb i heatingHours ≡ t → Sized 1000000 (pairsOf shares (suc i))
-      by i true e = rw (f .filled i (ltb-true i heatingHours e)) (hour-sized cable (suc i))
+      by i true e = rw (f .filled i (ltb-true i heatingHours e)) (hour-sized g (suc i))
       by i false e = rw (List·getD-eq-default shares (pointB (pos 0)) {n = i} (omega (arith, f .six, ltb-false i heatingHours e))) (record { low = omega arith; high = omega arith })
 
-  same-gathered : (hour n : ℕ) → n ≤ heatingHours → gatheredBounds hours hour (pairsOf shares) n ≡ gatheredBounds hours hour (hourPair cable) n
+  same-gathered : (hour n : ℕ) → n ≤ heatingHours → gatheredBounds hours hour (pairsOf shares) n ≡ gatheredBounds hours hour (hourPair g) n
   unfolding gatheredBounds
   same-gathered hour zero h = refl
   same-gathered hour (suc n) h = rw (same-gathered hour n (omega arith), f .filled n (omega arith)) refl
 
-  pub same-heating : (hour : ℕ) → heatingBounds (pairsOf shares) hours hour ≡ heatingBounds (hourPair cable) hours hour
+  same-heating : (hour : ℕ) → heatingBounds (pairsOf shares) hours hour ≡ heatingBounds (hourPair g) hours hour
   unfolding heatingBounds
   same-heating hour = rw (same-gathered hour heatingHours (le-refl heatingHours)) refl
 
   -- the largest sum
-  pub same-largest : heatingBounds (pairsOf shares) hours (referenceHour (pairsOf shares) hours) ≡ heatingBounds (hourPair cable) hours (referenceHour (hourPair cable) hours)
-  same-largest = ap (heatingBounds (pairsOf shares) hours) (latest-same (heatingSum (pairsOf shares) hours) (heatingSum (hourPair cable) hours) (λ h. ap (λ (b : Bounds). b .high) (same-heating h)) dayHours) ∙ same-heating (referenceHour (hourPair cable) hours)
+  pub same-largest : heatingBounds (pairsOf shares) hours (referenceHour (pairsOf shares) hours) ≡ heatingBounds (hourPair g) hours (referenceHour (hourPair g) hours)
+  same-largest = ap (heatingBounds (pairsOf shares) hours) (latest-same (heatingSum (pairsOf shares) hours) (heatingSum (hourPair g) hours) (λ h. ap (λ (b : Bounds). b .high) (same-heating h)) dayHours) ∙ same-heating (referenceHour (hourPair g) hours)

@@ -6,15 +6,12 @@ use Prim.Native.Nat.{ℕ, suc, _*_}
 use lib.Dec.{ltb, eqb}
 use lib.IntN.{pos}
 use Rattle.bounds.specs.declared.Bounds.{Bounds}
-use Rattle.cable.specs.Checks.{checked}
-use Rattle.cable.specs.Stated.{Stated, statedValues, statedRefusal}
-use Rattle.cable.specs.declared.Cable.{Cable}
-use Rattle.cable.specs.declared.Refusal.{Refusal}
-use Rattle.cable.specs.declared.Place.the-variants.{None, Hour}
-use Rattle.cable.specs.declared.CableCheck.{CableCheck}
-use Rattle.cable.specs.declared.CableCheck.the-variants as C
+use Rattle.refusals.specs.Stated.{Stated, statedValues, statedRefusal}
+use Rattle.refusals.specs.declared.Refusal.{Refusal}
+use Rattle.refusals.specs.declared.Place.the-variants.{None, Hour}
+use Rattle.cable.specs.Group.{Group, Given, accepted, refused}
 use Rattle.share.specs.Pair.{sharePair}
-use Rattle.share.specs.Promises.{shareWidth, exactShare}
+use Rattle.share.specs.Promises.{widthOf, exactShare}
 use Rattle.cycle.specs.Day.{dayHours}
 use Rattle.cycle.specs.Heating.{heatingSum, referenceHour}
 use Rattle.cycle.specs.Factor.{largestFactor}
@@ -49,17 +46,14 @@ factorFrom pairs hours =
     (cond (allZero hours) (Refused refused11)
     (Factor (largestFactor (heatingSum pairs hours (referenceHour pairs hours)))))
 
--- what follows where checks 2 and 3 pass; their refusal passes out unchanged
-abbrev pub afterChecks : CableCheck → FactorAnswer → FactorAnswer
-afterChecks (C.Accepted c) answer = answer
-afterChecks (C.Refused f) answer = Refused f
+-- "G at whole hours", of 60 minutes each
+abbrev pub hourPair : Group → ℕ → Bounds
+hourPair g hour = sharePair g (60 * hour)
 
--- "G at whole hours"
-abbrev pub hourPair : Cable → ℕ → Bounds
-hourPair cable hour = sharePair cable (60 * hour)
-
-unfoldable pub factorAnswer : Cable → List ℕ → FactorAnswer
-factorAnswer cable hours = afterChecks (checked cable) (factorFrom (hourPair cable) hours)
+-- the refusal of what was handed in comes first
+abbrev pub factorAnswer : Given → List ℕ → FactorAnswer
+factorAnswer (accepted g) hours = factorFrom (hourPair g) hours
+factorAnswer (refused f) hours = Refused f
 
 -- the paper's number, place and values of each answer
 abbrev pub statedFactor : FactorAnswer → Stated
@@ -67,6 +61,6 @@ statedFactor (Factor m) = statedValues (pos m ∷ [])
 statedFactor (Refused f) = statedRefusal f
 
 -- the answer, and how far a factor may be from the exact one: 'What the distances say'
-pub record FactorSaid (cable : Cable) (hours : List ℕ) (r : FactorAnswer) : Type 0 where
-  pub answer : r ≡ factorAnswer cable hours
-  pub distance : (m : ℕ) → statedFactor r ≡ statedValues (pos m ∷ []) → FactorDistance shareWidth (largestHeating (exactShare cable) hours) m
+pub record FactorSaid (given : Given) (hours : List ℕ) (r : FactorAnswer) : Type 0 where
+  pub answer : r ≡ factorAnswer given hours
+  pub distance : (g : Group) → given ≡ accepted g → (m : ℕ) → statedFactor r ≡ statedValues (pos m ∷ []) → FactorDistance (widthOf g) (largestHeating (exactShare g) hours) m

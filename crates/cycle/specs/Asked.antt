@@ -1,21 +1,21 @@
 -- What the functions below `factor` ask.
 use mathlib.Core.Path.{_≡_}
 use mathlib.Core.List.{List}
-use Prim.Native.Nat.{ℕ, zero, suc, _≤_, _<_}
+use Prim.Native.Nat.{ℕ, zero, suc, _*_, _≤_, _<_}
 use lib.IntN.{pos}
 use lib.ListN.{getD}
 use Rattle.bounds.specs.Operations.{pointB}
 use Rattle.bounds.specs.Promises.{Sized}
 use Rattle.bounds.specs.declared.Bounds.{Bounds}
-use Rattle.cable.specs.Checks.{checked}
+use Rattle.cable.specs.Group.{only}
+use Rattle.cable.specs.InRange.{Acceptable}
 use Rattle.cable.specs.declared.Cable.{Cable}
-use Rattle.cable.specs.declared.CableCheck.the-variants as C
 use Rattle.cycle.specs.Day.{dayHours, highestLoad, squaredLoads}
 use Rattle.cycle.specs.Heating.{commonDivisor}
 
--- Checks 2, 3 and 11 passed.
-pub record Ready (cable : Cable) (hours : List ℕ) : Type 0 where
-  pub accepted : checked cable ≡ C.Accepted cable
+-- An accepted cable in use, and check 11 passed.
+pub record Ready (used : Cable) (hours : List ℕ) : Type 0 where
+  pub accepted : Acceptable (only used)
   pub loaded : 0 < highestLoad hours
 
 -- The pairs of six shares in a list, as G(1), G(2), ..
@@ -23,11 +23,11 @@ abbrev pub pairsOf : List Bounds → ℕ → Bounds
 pairsOf shares zero = pointB (pos 0)
 pairsOf shares (suc i) = getD shares i (pointB (pos 0))
 
--- 24·65,535²: loads of 16 bits have no larger common divisor.
+-- 24·65,535² A²: loads of 16 bits have no larger common divisor.
 abbrev pub mostDivisor : ℕ
-mostDivisor = 103076069400
+mostDivisor = dayHours * (65535 * 65535)
 
--- Shares of at most 1,000,000 in size, and check 11 passed.
+-- Shares of at most 1,000,000 millionths in size, and check 11 passed.
 pub record Shared (shares : List Bounds) (hours : List ℕ) : Type 0 where
   pub sized : (i : ℕ) → Sized 1000000 (pairsOf shares (suc i))
   pub loaded : 0 < highestLoad hours
@@ -43,6 +43,6 @@ pub record DivisorOf (hours : List ℕ) (divisor : ℕ) : Type 0 where
   pub is : divisor ≡ commonDivisor hours
   pub to : divisor ≤ mostDivisor
 
--- No heating sum is larger, in millionths: the gathered numbers and the constant are at most the common divisor each.
+-- 7,000,000 millionths. No heating sum is larger: the gathered numbers and the constant are at most the common divisor each.
 abbrev pub mostSum : ℕ
 mostSum = 7000000

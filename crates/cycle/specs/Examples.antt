@@ -14,16 +14,17 @@ use Rattle.numbers.specs.Largest.{largest}
 use Rattle.bounds.specs.Operations.{addB, mulB, dividedB}
 use Rattle.bounds.specs.declared.Bounds.{Bounds}
 use Rattle.exact.specs.Value.{number}
-use Rattle.cable.specs.Stated.{no-place, an-hour}
+use Rattle.refusals.specs.Stated.{no-place, an-hour}
+use Rattle.refusals.specs.declared.Place.the-variants.{None}
+use Rattle.cable.specs.Checks.{checked, outsideField}
+use Rattle.cable.specs.Group.{Group, givenCable}
 use Rattle.cable.specs.declared.Cable.{Cable}
-use Rattle.cable.specs.declared.CableCheck.the-variants as C
-use Rattle.cable.specs.declared.Place.the-variants.{None}
 use Rattle.share.specs.Pair.{sharePair}
 use Rattle.cycle.specs.Day.{highestLoad, highestOf, earlier, squaredLoads}
 use Rattle.cycle.specs.Heating.{relativeLoad, gatheredBounds, heatingBounds, heatingSum, latestLargest, referenceHour}
 use Rattle.cycle.specs.Factor.{allowed, largestFactor}
 use Rattle.cycle.specs.Exact.{FactorDistance}
-use Rattle.cycle.specs.Answer.{hourPair, refused10, refused11, factorFrom, afterChecks, statedFactor}
+use Rattle.cycle.specs.Answer.{hourPair, refused10, refused11, factorFrom, factorAnswer, statedFactor}
 use Rattle.cycle.specs.declared.FactorAnswer.the-variants.{Factor, Refused}
 
 -- n hours of x amperes, then the rest
@@ -139,7 +140,7 @@ even-factor : factorFrom rising (of 24 200 []) ≡ Factor 1000
 unfolding factorFrom latestLargest heatingBounds gatheredBounds relativeLoad squaredLoads highestOf addB mulB dividedB floorZ ceilZ lesser greater largest allowed
 even-factor = refl
 
--- (2,439,200·G(6) + 1,026,400·1,000,000) / 3,840,000 with the high G(6) is 648,442.07; at hour 7 the sum is 206,957, and the factor would be 2,198
+-- (2,439,200·G(6) + 1,026,400·1,000,000) / 3,840,000 with the high G(6) is 648,442.075; at hour 7 the sum is 206,957, and the factor would be 2,198
 plateau-factor : factorFrom rising plateau ≡ Factor 1241
 unfolding factorFrom latestLargest heatingBounds gatheredBounds relativeLoad squaredLoads highestOf addB mulB dividedB floorZ ceilZ lesser greater largest allowed
 plateau-factor = refl
@@ -179,8 +180,8 @@ under-the-cap d = le→leb _ _ (d .larger-above (omega arith) 5000 (omega arith)
 
 -- ---- "G at whole hours"
 
-two-hours : (cable : Cable) → hourPair cable 2 ≡ sharePair cable 120
-two-hours cable = refl
+two-hours : (g : Group) → hourPair g 2 ≡ sharePair g 120
+two-hours g = refl
 
 -- ---- refusals
 
@@ -206,9 +207,29 @@ no-load : factorFrom rising (of 24 0 []) ≡ Refused refused11
 unfolding factorFrom
 no-load = refl
 
+-- cable A of 'Cases', with another slow rate
+abbrev cableA : ℕ → Cable
+cableA slow =
+    record {
+      diameter = 500;
+      depth = 1000;
+      diffusivity = 500;
+      «surface_ratio» = 600000;
+      «fast_weight» = 500000;
+      «fast_rate» = 1000;
+      «slow_rate» = slow;
+      rated = 400;
+    }
+
 -- 3 before 10
-check-first : afterChecks (C.Refused (record { number = 3; place = None })) (factorFrom rising (of 24 4001 [])) ≡ Refused (record { number = 3; place = None })
+check-first : factorAnswer (givenCable (cableA 1001)) (of 24 4001 []) ≡ Refused (record { number = 3; place = None })
+unfolding givenCable checked outsideField
 check-first = refl
+
+-- 10 where the checks pass
+check-passed : factorAnswer (givenCable (cableA 1000)) (of 24 4001 []) ≡ Refused (refused10 0)
+unfolding givenCable checked outsideField factorFrom
+check-passed = refl
 
 -- ---- the paper's numbers
 

@@ -5,9 +5,11 @@ use lib.IntN.{ℤ, pos, _*ℤ_}
 use lib.Signed.{leZ}
 use Rattle.numbers.specs.Largest.{largest}
 
+-- thousandths
 abbrev pub mostFactor : ℕ
 mostFactor = 5000
 
+-- thousandths² times millionths
 abbrev pub mostHeating : ℕ
 mostHeating = 1000000000000
 

@@ -1,19 +1,23 @@
 // The cyclic rating factor of a cable: document 01, 'The daily cycle', with the reference hour of document 02, note 1, 'The hottest hour'.
 ghost use mathlib.Core.Path.{_≡_};
-ghost use Prim.Native.Nat.{_+_, _*_, _≤_, _<_};
+ghost use Prim.Native.Nat.{_≤_, _<_};
 ghost use Rattle.bounds.specs.Operations.{pointB};
 ghost use Rattle.bounds.specs.Promises.{Sized};
+ghost use Rattle.refusals.specs.Apart.{partsOf};
+ghost use Rattle.cable.specs.Group.{only, givenCable};
+ghost use Rattle.cable.specs.InRange.{Acceptable};
 ghost use Rattle.cycle.specs.Day.{dayHours, highestLoad, squaredLoads};
 ghost use Rattle.cycle.specs.Heating.{heatingHours, relativeLoad, gatheredLoad, heatingBounds, heatingSum, referenceHour};
 ghost use Rattle.cycle.specs.Factor.{mostFactor, allowed, largestFactor};
-ghost use Rattle.cycle.specs.Answer.{firstAbove, hourPair, FactorSaid};
+ghost use Rattle.cycle.specs.Answer.{firstAbove, factorFrom, hourPair, statedFactor, FactorSaid};
 ghost use Rattle.cycle.specs.Asked.{Ready, Shared, AtHour, DivisorOf, pairsOf, mostDivisor, mostSum};
 ghost use Rattle.cycle.specs.declared.FactorAnswer.the-variants.{Factor};
 use bounds::Bounds;
 use cable::Cable;
 use cable::CableCheck;
-use cable::Place;
-use cable::Refusal;
+use refusals::Parts;
+use refusals::Place;
+use refusals::Refusal;
 use share::ShareAnswer;
 
 // The factor in thousandths, or the first refusal in the order 2, 3, 10, 11.
@@ -24,26 +28,42 @@ pub enum FactorAnswer {
 
 const DAY_HOURS: usize = 24;
 
+// The hours with a share of their own; those before them count by the mean.
 const HEATING_HOURS: usize = 6;
 
+// In A.
 const MOST_AMPERES: u16 = 4000;
 
+// In minutes.
+const HOUR: u32 = 60;
+
+// Millionths in one.
 const MILLION: u64 = 1000000;
 
+// In thousandths.
 const MOST_FACTOR: u32 = 5000;
 
+// 10^12: a factor's thousandths² times a sum's millionths.
 const MOST_HEATING: i64 = 1000000000000;
 
 // By how many thousandths a cable's rated current may be multiplied where the load goes through `hours` each day: the largest whole m, at most 5,000,
 // with m² times the heating sum at most 10^12, at the hour of the day at which that sum is largest. With T the largest of the 24 exact sums, in
 // millionths, m²·T is at most 10^12; and if m is below 5,000, each larger whole number, squared and times T + 301, is above 10^12.
 pub fn factor(cable: Cable, hours: [u16; 24]) -> FactorAnswer
-    ensures { λ r. ⌜ FactorSaid cable hours r ⌝ }
+    ensures { λ r. ⌜ FactorSaid (givenCable cable) hours r ⌝ }
 {
-    let checked = cable::check_cable(cable);
-    let CableCheck::Accepted(accepted) = checked else {
-        return FactorAnswer::Refused(cable::refusal_of(checked));
-    };
+    let checked = cable::given(cable);
+    match checked {
+        CableCheck::Accepted(used) => factor_of(used, hours),
+        CableCheck::Refused(refusal) => FactorAnswer::Refused(refusal),
+    }
+}
+
+// The factor of an accepted cable in use: refusal 10, refusal 11, or the factor.
+pub fn factor_of(used: Cable, hours: [u16; 24]) -> FactorAnswer
+    requires { ⌜ Acceptable (only used) ⌝ }
+    ensures { λ r. ⌜ r ≡ factorFrom (hourPair (only used)) hours ⌝ }
+{
     let above = first_above(hours);
     if above < DAY_HOURS {
         return FactorAnswer::Refused(Refusal {
@@ -57,20 +77,30 @@ pub fn factor(cable: Cable, hours: [u16; 24]) -> FactorAnswer
             place: Place::None,
         });
     }
-    factor_of_day(accepted, hours)
+    factor_of_day(used, hours)
 }
 
-// The factor of a day. The six shares are worked out once for all 24 hours.
-fn factor_of_day(cable: Cable, hours: [u16; 24]) -> FactorAnswer
-    requires { ⌜ Ready cable hours ⌝ }
-    ensures { λ r. ⌜ r ≡ Factor (largestFactor (heatingSum (hourPair cable) hours (referenceHour (hourPair cable) hours))) ⌝ }
+// What an answer states.
+pub fn parts(answer: FactorAnswer) -> Parts
+    ensures { λ r. ⌜ r ≡ partsOf (statedFactor answer) ⌝ }
+{
+    match answer {
+        FactorAnswer::Factor(m) => refusals::of_value(m),
+        FactorAnswer::Refused(refusal) => refusals::of_refusal(refusal),
+    }
+}
+
+// The factor of a day. The six shares, at hours of 60 minutes, are worked out once for all 24 hours.
+fn factor_of_day(used: Cable, hours: [u16; 24]) -> FactorAnswer
+    requires { ⌜ Ready used hours ⌝ }
+    ensures { λ r. ⌜ r ≡ Factor (largestFactor (heatingSum (hourPair (only used)) hours (referenceHour (hourPair (only used)) hours))) ⌝ }
 {
     let none = Bounds::whole(0);
-    let mut shares = [none; 6];
+    let mut shares = [none; HEATING_HOURS];
     for i in 0..HEATING_HOURS {
-        let answer = share::share(cable, 60 * (i as u32 + 1));
+        let answer = share::share_of(used, HOUR * (i as u32 + 1));
         let ShareAnswer::Pair(pair) = answer else {
-            return FactorAnswer::Refused(share::refusal_of(answer));
+            return FactorAnswer::Refused(refusals::refusal_in(share::parts(answer)));
         };
         shares[i] = pair;
     }
@@ -78,7 +108,7 @@ fn factor_of_day(cable: Cable, hours: [u16; 24]) -> FactorAnswer
 }
 
 // The heating sum of the hottest hour: the one at which it is largest. The mean and the divisor are those of all 24 hours.
-fn largest_sum(shares: [Bounds; 6], hours: [u16; 24]) -> Bounds
+fn largest_sum(shares: [Bounds; HEATING_HOURS], hours: [u16; 24]) -> Bounds
     requires { ⌜ Shared shares hours ⌝ }
     ensures { λ r. ⌜ (r ≡ heatingBounds (pairsOf shares) hours (referenceHour (pairsOf shares) hours)) × (Sized mostSum r) ⌝ }
 {
@@ -96,7 +126,7 @@ fn largest_sum(shares: [Bounds; 6], hours: [u16; 24]) -> Bounds
 
 // The heating sum for a reference hour. What multiplies each share is gathered first; the sum is divided, and so rounded, once.
 fn heating_sum(
-    shares: [Bounds; 6],
+    shares: [Bounds; HEATING_HOURS],
     hours: [u16; 24],
     hour: usize,
     mean: u64,
@@ -155,7 +185,7 @@ fn relative_load(hours: [u16; 24], hour: usize, i: usize, mean: u64) -> u64
 {
     if i < HEATING_HOURS {
         let at = (hour + DAY_HOURS - i) % DAY_HOURS;
-        24 * square(hours[at])
+        (DAY_HOURS as u64) * numbers::square(hours[at] as u32)
     } else {
         mean
     }
@@ -166,7 +196,7 @@ fn squared_loads(hours: [u16; 24]) -> u64
 {
     let mut sum: u64 = 0;
     for k in 0..DAY_HOURS {
-        sum += square(hours[k]);
+        sum += numbers::square(hours[k] as u32);
     }
     sum
 }
@@ -174,13 +204,7 @@ fn squared_loads(hours: [u16; 24]) -> u64
 fn common_divisor(hours: [u16; 24]) -> u64
     ensures { λ r. ⌜ DivisorOf hours r ⌝ }
 {
-    24 * square(highest_load(hours))
-}
-
-fn square(x: u16) -> u64
-    ensures { λ r. ⌜ (r ≡ x * x) × (r ≤ 4294836225) ⌝ }
-{
-    (x as u64) * (x as u64)
+    (DAY_HOURS as u64) * numbers::square(highest_load(hours) as u32)
 }
 
 // By bisection: low is allowed and high is not, or is past the end.
@@ -205,6 +229,6 @@ fn allowed(sum: Bounds, m: u32) -> bool
     requires { ⌜ (Sized mostSum sum) × (m ≤ mostFactor) ⌝ }
     ensures { λ b. ⌜ b ≡ allowed (sum .high) m ⌝ }
 {
-    let heating = sum.times((m as u64) * (m as u64));
+    let heating = sum.times(numbers::square(m));
     heating.high <= MOST_HEATING
 }

@@ -9,29 +9,22 @@ use lib.Signed.{_≤ℤ_}
 use Rattle.numbers.specs.Integer.{up}
 use Rattle.numbers.proofs.Integers.{le-lin}
 use Rattle.bounds.specs.declared.Bounds.{Bounds}
-use Rattle.cable.specs.Checks.{outside, _to_, checked}
-use Rattle.cable.specs.Stated.{statedCheck}
+use Rattle.refusals.specs.Ranges.{outside, _to_}
+use Rattle.refusals.specs.declared.Refusal.{Refusal}
+use Rattle.refusals.proofs.Ranges.{passed-within}
+use Rattle.cable.specs.Group.{Group, Given, accepted, refused}
 use Rattle.cable.specs.InRange.{Acceptable}
-use Rattle.cable.specs.declared.Cable.{Cable}
-use Rattle.cable.specs.declared.Refusal.{Refusal}
-use Rattle.cable.specs.declared.CableCheck.{CableCheck}
-use Rattle.cable.specs.declared.CableCheck.the-variants as C
-use Rattle.cable.proofs.Acceptance.{passed-within, accepted-in-range}
-use Rattle.share.specs.Promises.{Millionths}
-use Rattle.share.specs.Answer.{shareAnswer, afterChecks}
-use Rattle.share.specs.declared.ShareAnswer.{ShareAnswer}
+use Rattle.distance.specs.Promised.{Millionths}
+use Rattle.share.specs.Answer.{shareFrom}
 use Rattle.share.specs.declared.ShareAnswer.the-variants as S
 use Rattle.share.proofs.Promises.{share-pair-range, answered-pair}
 use Rattle.emergency.specs.Asked.{InRange}
 use Rattle.emergency.specs.Certifying.{largestCertified}
-use Rattle.emergency.specs.Answer.{mostPercent, refused12, refused13, currentFrom, currentAnswer}
+use Rattle.emergency.specs.Answer.{mostPercent, refused12, refused13, currentFrom, currentOf, currentAnswer}
+use Rattle.emergency.specs.declared.CurrentAnswer.{CurrentAnswer}
 use Rattle.emergency.specs.declared.CurrentAnswer.the-variants.{Current, Refused}
 
 -- ---- a share that is given
-
-passed-checks : (a : CableCheck) (x : ShareAnswer) {p : Bounds} → afterChecks a x ≡ S.Pair p → statedCheck a .number ≡ 0
-passed-checks (C.Accepted c) x e = refl
-passed-checks (C.Refused f) x e = let z : _≡_ {A = ℕ} 0 1 = cc in absurd (omega arith)
 
 -- an integer not below 0 is its positive part
 pub whole-part : (z : ℤ) → pos 0 ≤ℤ z → pos (up z) ≡ z
@@ -42,48 +35,53 @@ part-to : (z : ℤ) {k : ℕ} → z ≤ℤ pos k → up z ≤ k
 part-to (pos n) h = omega (arith, le-lin h)
 part-to (negsuc n) h = omega arith
 
-module _ (cable : Cable) (minutes : ℕ) {p : Bounds} (e : shareAnswer cable minutes ≡ S.Pair p) where
-  pub given-acceptable : Acceptable cable
-  unfolding shareAnswer
-  given-acceptable = accepted-in-range cable (passed-checks (checked cable) _ e)
-
+module _ (g : Group) (minutes : ℕ) {p : Bounds} (e : shareFrom g minutes ≡ S.Pair p) where
   pub given-range : Millionths p
-  given-range = rw (answered-pair cable minutes e) (share-pair-range cable minutes)
+  given-range = rw (answered-pair g minutes e) (share-pair-range g minutes)
 
-  pub numbers-in-range : {h r g : ℕ} → outside (0 to mostPercent) h ≡ false → outside (1 to mostPercent) r ≡ false → g ≡ up (p .high) → InRange (cable .rated) h r g
-  numbers-in-range {h} {r} {g} oh or eg =
+  pub numbers-in-range : Acceptable g → {h r s : ℕ} → outside (0 to mostPercent) h ≡ false → outside (1 to mostPercent) r ≡ false → s ≡ up (p .high) → InRange (g .cable .rated) h r s
+  numbers-in-range a {h} {r} {s} oh or es =
       record {
-        rated-to = given-acceptable .rated-to;
+        rated-to = a .rated-to;
         preload-to = passed-within 0 mostPercent h oh .1;
         limit-to = passed-within 1 mostPercent r or .1;
-        share-to = rw eg (part-to (p .high) (given-range .high-to));
+        share-to = rw es (part-to (p .high) (given-range .high-to));
       }
 
--- ---- the ways out
+-- ---- the ways out of a group
 
-module _ (cable : Cable) (h r minutes : ℕ) where
-  pub share-refused : {f : Refusal} → shareAnswer cable minutes ≡ S.Refused f → Refused f ≡ currentAnswer cable h r minutes
-  unfolding currentAnswer
-  share-refused e = rw (e, currentAnswer)
+module _ (g : Group) (h r minutes : ℕ) where
+  pub share-refused : {f : Refusal} → shareFrom g minutes ≡ S.Refused f → Refused f ≡ currentOf g h r minutes
+  unfolding currentOf
+  share-refused e = rw (e, currentOf)
 
-  module _ {p : Bounds} (e : shareAnswer cable minutes ≡ S.Pair p) where
-    pub preload-refused : outside (0 to mostPercent) h ≡ true → Refused (refused12 1) ≡ currentAnswer cable h r minutes
-    unfolding currentAnswer currentFrom
-    preload-refused o = rw (e, o, currentAnswer, currentFrom)
+  module _ {p : Bounds} (e : shareFrom g minutes ≡ S.Pair p) where
+    pub preload-refused : outside (0 to mostPercent) h ≡ true → Refused (refused12 1) ≡ currentOf g h r minutes
+    unfolding currentOf currentFrom
+    preload-refused o = rw (e, o, currentOf, currentFrom)
 
     module _ (oh : outside (0 to mostPercent) h ≡ false) where
-      pub limit-refused : outside (1 to mostPercent) r ≡ true → Refused (refused12 2) ≡ currentAnswer cable h r minutes
-      unfolding currentAnswer currentFrom
-      limit-refused o = rw (e, oh, o, currentAnswer, currentFrom)
+      pub limit-refused : outside (1 to mostPercent) r ≡ true → Refused (refused12 2) ≡ currentOf g h r minutes
+      unfolding currentOf currentFrom
+      limit-refused o = rw (e, oh, o, currentOf, currentFrom)
 
       module _ (or : outside (1 to mostPercent) r ≡ false) where
-        pub too-hot-refused : 100 * r < h * h → Refused refused13 ≡ currentAnswer cable h r minutes
-        unfolding currentAnswer currentFrom
-        too-hot-refused t = rw (e, oh, or, lt-ltb (100 * r) (h * h) t, currentAnswer, currentFrom)
+        pub too-hot-refused : 100 * r < h * h → Refused refused13 ≡ currentOf g h r minutes
+        unfolding currentOf currentFrom
+        too-hot-refused t = rw (e, oh, or, lt-ltb (100 * r) (h * h) t, currentOf, currentFrom)
 
-        pub current-given : {i g : ℕ} → h * h ≤ 100 * r → g ≡ up (p .high) → i ≡ largestCertified (cable .rated) h r (pos g) → Current i ≡ currentAnswer cable h r minutes
-        unfolding currentAnswer currentFrom
-        current-given t eg ei =
-            let high : pos (up (p .high)) ≡ p .high = whole-part (p .high) (given-range cable minutes e .high-from) in
-            ap Current (ei ∙ ap (λ x. largestCertified (cable .rated) h r x) (ap pos eg ∙ high ∙ ap (λ (b : Bounds). b .high) (answered-pair cable minutes e)))
-            ∙ rw (e, oh, or, le-ltb (100 * r) (h * h) t, currentAnswer, currentFrom)
+        pub current-given : {i s : ℕ} → h * h ≤ 100 * r → s ≡ up (p .high) → i ≡ largestCertified (g .cable .rated) h r (pos s) → Current i ≡ currentOf g h r minutes
+        unfolding currentOf currentFrom
+        current-given t es ei =
+            let high : pos (up (p .high)) ≡ p .high = whole-part (p .high) (given-range g minutes e .high-from) in
+            ap Current (ei ∙ ap (λ x. largestCertified (g .cable .rated) h r x) (ap pos es ∙ high ∙ ap (λ (b : Bounds). b .high) (answered-pair g minutes e)))
+            ∙ rw (e, oh, or, le-ltb (100 * r) (h * h) t, currentOf, currentFrom)
+
+-- ---- what is given decides
+
+module _ {given : Given} (h r minutes : ℕ) where
+  pub answer-accepted : {g : Group} {a : CurrentAnswer} → given ≡ accepted g → a ≡ currentOf g h r minutes → a ≡ currentAnswer given h r minutes
+  answer-accepted e q = rw e q
+
+  pub answer-refused : {f : Refusal} → given ≡ refused f → Refused f ≡ currentAnswer given h r minutes
+  answer-refused e = rw e

@@ -10,14 +10,11 @@ use lib.IntN.{ℤ, pos, negsuc, negℤ, _-ℤ_, _*ℤ_}
 use lib.Signed.{_≤ℤ_, leZ}
 use Rattle.numbers.specs.Integer.{up, dn}
 use Rattle.numbers.specs.Largest.{Falling}
-use Rattle.numbers.proofs.Integers.{le-lin, lin-le, add-lin, neg-up, neg-dn, mul-lin}
+use Rattle.numbers.proofs.Integers.{le-lin, lin-le, leZ-true, add-lin, neg-up, neg-dn, mul-lin}
 use Rattle.emergency.specs.Asked.{InRange}
 use Rattle.emergency.specs.Certifying.{Certified, certified, mostCurrent}
 
 -- ---- the test is the rule
-
-passed : {p q : ℤ} → leZ p q ≡ true → p ≤ℤ q
-passed e = record { le = rw e tt }
 
 passes : {p q : ℤ} → p ≤ℤ q → leZ p q ≡ true
 passes {p} {q} h = holds (leZ p q) (h .le)
@@ -29,7 +26,7 @@ passes {p} {q} h = holds (leZ p q) (h .le)
 module _ (rated h r : ℕ) (g : ℤ) (i : ℕ) where
   pub certified-rule : certified rated h r g i ≡ true → Certified rated h r g i
   unfolding certified
-  certified-rule e = record { rule = passed e }
+  certified-rule e = record { rule = leZ-true e }
 
   pub rule-certified : Certified rated h r g i → certified rated h r g i ≡ true
   unfolding certified
@@ -44,7 +41,7 @@ same-test x y p q to from = by (leb x y) (leZ p q) refl refl
     by true true e f = refl
     by false false e f = refl
     by true false e f = let z : _≡_ {A = ℕ} 0 1 = cc (passes (to (leb-true x y e))) in absurd (omega arith)
-    by false true e f = absurd (omega (arith, leb-false x y e, from (passed f)))
+    by false true e f = absurd (omega (arith, leb-false x y e, from (leZ-true f)))
 
 difference : (x p : ℕ) → up (pos x -ℤ pos p) + p ≡ dn (pos x -ℤ pos p) + x
 difference x p = omega (arith, add-lin (pos x) (negℤ (pos p)), neg-up (pos p), neg-dn (pos p))

@@ -17,9 +17,8 @@ use Rattle.bounds.specs.Operations.{pointB, addB, mulB}
 use Rattle.bounds.specs.declared.Bounds.{Bounds}
 use Rattle.exact.specs.Value.{Value, AtMost, AtLeast, _⊴_, integer, _+ᵥ_}
 use Rattle.exact.proofs.Values.{add⊴, constant⊴}
-use Rattle.distance.specs.Around.{Around}
+use Rattle.distance.specs.Promised.{Promised}
 use Rattle.distance.proofs.Around.{around-integer, around-add, around-times}
-use Rattle.share.specs.Promises.{Promised}
 use Rattle.emergency.specs.Certifying.{loadChange, addedRise, roomToLimit, certified, largestCertified, mostCurrent}
 use Rattle.emergency.specs.Exact.{exactAdded, CurrentDistance}
 use Rattle.emergency.proofs.Certifying.{certified-rule, nothing-certified}
@@ -46,9 +45,6 @@ failed : (y z : ℤ) → leZ y z ≡ false → sucℤ z ≤ℤ y
 failed y z e = lin-le (sucℤ z) y (omega (arith, suc-lin z, lt-lin (leZ-false y z e)))
 
 module _ (W rated h r : ℕ) (share : Value) (sound : share ⊴ share) (b : Bounds) (p : Promised W share b) (cool : h * h ≤ 100 * r) where
-  around : Around b share
-  around = record { low-at-most = p .low-at-most; high-at-least = p .high-at-least }
-
   room : ℕ
   room = (100 * r - h * h) * (rated * rated * 1000000)
 
@@ -84,7 +80,7 @@ module _ (W rated h r : ℕ) (share : Value) (sound : share ⊴ share) (b : Boun
   product-under = greater-both (λ z. z ≤ℤ roomToLimit rated h r) (greater-both (λ z. z ≤ℤ roomToLimit rated h r) low-under high-under) (greater-both (λ z. z ≤ℤ roomToLimit rated h r) low-under high-under)
 
   limit-kept : AtLeast (ofInt (roomToLimit rated h r)) (exactAdded rated h share found)
-  limit-kept = record { least = λ n t. trans≼ₛ (around-times (loadChange rated h found) sound around .high-at-least .least n t) (ofInt≼ product-under) }
+  limit-kept = record { least = λ n t. trans≼ₛ (around-times (loadChange rated h found) sound (p .around) .high-at-least .least n t) (ofInt≼ product-under) }
 
   -- ---- each larger ampere breaks it
   module _ (below : found < 10000) (j : ℕ) (larger : found < j) where
@@ -134,7 +130,7 @@ module _ (W rated h r : ℕ) (share : Value) (sound : share ⊴ share) (b : Boun
         at-high = over-moved (b .high +ℤ pos W) (lin-le (b .high) (b .high +ℤ pos W) (omega (arith, add-lin (b .high) (pos W))))
 
     limit-broken : AtMost (ofInt (sucℤ (roomToLimit rated h r))) (exactAdded rated h (share +ᵥ integer (pos W)) j)
-    limit-broken = record { most = λ n t. trans≼ₛ (ofInt≼ product-over) (around-times (loadChange rated h j) (add⊴ sound (constant⊴ (refl≼ₛ (ofInt (pos W))))) (around-add around (around-integer (pos W))) .low-at-most .most n t) }
+    limit-broken = record { most = λ n t. trans≼ₛ (ofInt≼ product-over) (around-times (loadChange rated h j) (add⊴ sound (constant⊴ (refl≼ₛ (ofInt (pos W))))) (around-add (p .around) (around-integer (pos W))) .low-at-most .most n t) }
 
   -- whatever less than 10,000 were promised: a worked example holds it
   pub current-distance : CurrentDistance W rated h r share found

@@ -6,14 +6,14 @@ use Prim.Native.Nat.{ℕ, _*_}
 use lib.Dec.{ltb}
 use lib.IntN.{pos}
 use Rattle.bounds.specs.declared.Bounds.{Bounds}
-use Rattle.cable.specs.Checks.{outside, _to_}
-use Rattle.cable.specs.Stated.{Stated, statedValues, statedRefusal}
-use Rattle.cable.specs.declared.Cable.{Cable}
-use Rattle.cable.specs.declared.Refusal.{Refusal}
-use Rattle.cable.specs.declared.Place.the-variants.{None, Input}
+use Rattle.refusals.specs.Ranges.{outside, _to_}
+use Rattle.refusals.specs.Stated.{Stated, statedValues, statedRefusal}
+use Rattle.refusals.specs.declared.Refusal.{Refusal}
+use Rattle.refusals.specs.declared.Place.the-variants.{None, Input}
+use Rattle.cable.specs.Group.{Group, Given, accepted, refused}
 use Rattle.share.specs.Pair.{sharePair}
-use Rattle.share.specs.Promises.{shareWidth, exactShare}
-use Rattle.share.specs.Answer.{shareAnswer}
+use Rattle.share.specs.Promises.{widthOf, exactShare}
+use Rattle.share.specs.Answer.{shareFrom}
 use Rattle.share.specs.declared.ShareAnswer.{ShareAnswer}
 use Rattle.share.specs.declared.ShareAnswer.the-variants as S
 use Rattle.emergency.specs.Certifying.{largestCertified}
@@ -43,21 +43,26 @@ currentFrom rated h r pair =
     (cond (tooHot h r) (Refused refused13)
     (Current (largestCertified rated h r (pair .high)))))
 
--- what follows where the share is given; its refusal (2, 3 or 9) passes out unchanged
+-- what follows where the share is given: "A refusal of the share inside another calculation passes out unchanged."
 abbrev pub afterShare : ShareAnswer → CurrentAnswer → CurrentAnswer
 afterShare (S.Pair b) answer = answer
 afterShare (S.Refused f) answer = Refused f
 
-unfoldable pub currentAnswer : Cable → ℕ → ℕ → ℕ → CurrentAnswer
-currentAnswer cable h r minutes =
-    afterShare (shareAnswer cable minutes) (currentFrom (cable .rated) h r (sharePair cable minutes))
+-- of an accepted group: 9, 12, 13
+unfoldable pub currentOf : Group → ℕ → ℕ → ℕ → CurrentAnswer
+currentOf g h r minutes = afterShare (shareFrom g minutes) (currentFrom (g .cable .rated) h r (sharePair g minutes))
+
+-- the refusal of what was handed in comes first
+abbrev pub currentAnswer : Given → ℕ → ℕ → ℕ → CurrentAnswer
+currentAnswer (accepted g) h r minutes = currentOf g h r minutes
+currentAnswer (refused f) h r minutes = Refused f
 
 -- the paper's number, place and values of each answer
 abbrev pub statedCurrent : CurrentAnswer → Stated
 statedCurrent (Current i) = statedValues (pos i ∷ [])
 statedCurrent (Refused f) = statedRefusal f
 
-pub record CurrentSaid (cable : Cable) (h r minutes : ℕ) (a : CurrentAnswer) : Type 0 where
-  pub answer : a ≡ currentAnswer cable h r minutes
+pub record CurrentSaid (given : Given) (h r minutes : ℕ) (a : CurrentAnswer) : Type 0 where
+  pub answer : a ≡ currentAnswer given h r minutes
   -- 'What the distances say', of every current that is stated
-  pub distance : (i : ℕ) → statedCurrent a ≡ statedValues (pos i ∷ []) → CurrentDistance shareWidth (cable .rated) h r (exactShare cable minutes) i
+  pub distance : (g : Group) → given ≡ accepted g → (i : ℕ) → statedCurrent a ≡ statedValues (pos i ∷ []) → CurrentDistance (widthOf g) (g .cable .rated) h r (exactShare g minutes) i

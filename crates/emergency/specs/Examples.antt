@@ -1,5 +1,5 @@
 -- Worked examples of the certifying rule and of the refusals: document 01, 'The emergency current', 'When the desk is told no', numbers 9, 12 and 13.
--- The share is a pair given by hand.
+-- Where a share is given it is a pair by hand.
 use mathlib.Core.Path.{_≡_, refl}
 use mathlib.Core.Bool.{true, false}
 use mathlib.Core.List.{[], _∷_}
@@ -12,12 +12,16 @@ use Rattle.numbers.specs.Signed.{maxS, minS}
 use Rattle.numbers.specs.Largest.{largest}
 use Rattle.bounds.specs.declared.Bounds.{Bounds}
 use Rattle.exact.specs.Value.{number}
-use Rattle.cable.specs.Stated.{no-place, an-input}
-use Rattle.share.specs.Answer.{refused9}
+use Rattle.refusals.specs.Stated.{no-place, an-input}
+use Rattle.refusals.specs.declared.Place.the-variants.{None, Field}
+use Rattle.cable.specs.Checks.{checked, outsideField}
+use Rattle.cable.specs.Group.{givenCable}
+use Rattle.cable.specs.declared.Cable.{Cable}
+use Rattle.share.specs.Answer.{refused9, shareFrom}
 use Rattle.share.specs.declared.ShareAnswer.the-variants as S
 use Rattle.emergency.specs.Certifying.{certified}
 use Rattle.emergency.specs.Exact.{CurrentDistance}
-use Rattle.emergency.specs.Answer.{refused12, refused13, currentFrom, afterShare, statedCurrent}
+use Rattle.emergency.specs.Answer.{refused12, refused13, currentFrom, afterShare, currentOf, currentAnswer, statedCurrent}
 use Rattle.emergency.specs.declared.CurrentAnswer.the-variants.{Current, Refused}
 
 abbrev pair : ℕ → ℕ → Bounds
@@ -116,7 +120,33 @@ preload-before-limit : currentFrom 400 201 0 (pair 0 1000000) ≡ Refused (refus
 unfolding currentFrom
 preload-before-limit = refl
 
--- ---- the order: 9 before 12, 12 before 13
+-- ---- the order: 2 and 3 before 9, 9 before 12, 12 before 13
+
+-- cable A of 'Cases', with another diameter and another slow rate
+abbrev cableA : ℕ → ℕ → Cable
+cableA diameter slow =
+    record {
+      diameter = diameter;
+      depth = 1000;
+      diffusivity = 500;
+      «surface_ratio» = 600000;
+      «fast_weight» = 500000;
+      «fast_rate» = 1000;
+      «slow_rate» = slow;
+      rated = 400;
+    }
+
+field-first : currentAnswer (givenCable (cableA 99 1001)) 201 0 2881 ≡ Refused (record { number = 2; place = Field 1 })
+unfolding givenCable checked outsideField
+field-first = refl
+
+rates-before-minutes : currentAnswer (givenCable (cableA 500 1001)) 201 0 2881 ≡ Refused (record { number = 3; place = None })
+unfolding givenCable checked outsideField
+rates-before-minutes = refl
+
+minutes-before-preload : currentAnswer (givenCable (cableA 500 100)) 201 0 2881 ≡ Refused refused9
+unfolding givenCable checked outsideField currentOf shareFrom
+minutes-before-preload = refl
 
 share-first : afterShare (S.Refused refused9) (currentFrom 400 201 100 (pair 0 1000000)) ≡ Refused refused9
 share-first = refl

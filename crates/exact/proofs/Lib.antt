@@ -7,6 +7,7 @@ pub mod Plain
 pub mod PlainFine
 pub mod Values
 pub mod Parts
+pub mod Sources
 pub mod Certified
 pub mod SliceSeries
 pub mod Slices

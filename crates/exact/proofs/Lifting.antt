@@ -10,7 +10,7 @@ use Rattle.numbers.proofs.Fractions.{refl≼, above, ÷≼}
 use Rattle.numbers.proofs.FractionProver.{qv, qn, _+'_, q-le, le, q-from}
 use Rattle.numbers.proofs.Quotients.{÷-inv}
 use Rattle.numbers.proofs.Subtraction.{less-on, less-least, less-exact}
-use Rattle.numbers.proofs.SignedFractions.{refl≼ₛ, trans≼ₛ, add≼ₛ, neg≼ₛ, ofFrac≼, trans≈ₛ, refl≈ₛ, add≈ₛ, mul≈ₛ, min≈ₛ, max≈ₛ, hull-low, hull-up}
+use Rattle.numbers.proofs.SignedFractions.{refl≼ₛ, trans≼ₛ, add≼ₛ, neg≼ₛ, ofFrac≼, trans≈ₛ, refl≈ₛ, add≈ₛ, mul≈ₛ, min≈ₛ, max≈ₛ, hull-low, hull-up, amount≼}
 use Rattle.exact.specs.Value.{Value, AtMost, AtLeast, _⊴_, Fine, and, -ᵥ_, _+ᵥ_, _·ᵥ_, above?, reciprocal, _/ᵥ_}
 use Rattle.exact.proofs.Plain.{Plain, _⊴ₚ_, and-0, and-1, both, known, addP, mulP, lessP, quotP, above-0, known⊴ₚ, quot⊴ₚ}
 use Rattle.exact.proofs.Values.{constant, lift}
@@ -153,6 +153,28 @@ module _ (x y : Plain) (h : x ⊴ₚ x) (k : y ⊴ₚ y) where
       same : (b : Frac) → 0 < b .num → ofFrac (1F ÷ amount (ofFrac b)) ≈ₛ ofFrac (1F ÷ b)
       same b z = record { to = ofFrac≼ (÷≼ z (refl≼ 1F) (uncut b .from)); from = ofFrac≼ (÷≼ (above z (uncut b .from)) (refl≼ 1F) (uncut b .to)) }
 
+  -- the same of a divisor that has the fractions of y
+  recip-same : {v : Value} → v ≐ lift y → reciprocal v ≐ reciprocal (lift y)
+  recip-same {v} e = record {
+    there = λ n t. both (y .ok n) (above? (ofFrac (y .low n))) (e .there n (ok-at n t)) (le→leb 1 (amount (ofFrac (y .low n)) .num) (low-above n t));
+    back = λ n t. both (v .ok n) (above? (v .low n)) (e .back n (and-0 (y .ok n) (above? (ofFrac (y .low n))) t))
+        (le→leb 1 (amount (v .low n) .num) (above (leb→le 1 (amount (ofFrac (y .low n)) .num) (and-1 (y .ok n) (above? (ofFrac (y .low n))) t)) (amount≼ (e .lows n (e .back n (and-0 (y .ok n) (above? (ofFrac (y .low n))) t)) .from))));
+    lows = λ n t. same (v .high n) (ofFrac (y .high n)) (e .highs n (ok-at n t)) (high-above n t);
+    highs = λ n t. same (v .low n) (ofFrac (y .low n)) (e .lows n (ok-at n t)) (low-above n t);
+  }
+    where
+      ok-at : (n : ℕ) → T (and (v .ok n) (above? (v .low n))) → T (v .ok n)
+      ok-at n t = and-0 (v .ok n) (above? (v .low n)) t
+
+      low-above : (n : ℕ) → T (and (v .ok n) (above? (v .low n))) → 0 < amount (ofFrac (y .low n)) .num
+      low-above n t = above (leb→le 1 (amount (v .low n) .num) (and-1 (v .ok n) (above? (v .low n)) t)) (amount≼ (e .lows n (ok-at n t) .to))
+
+      high-above : (n : ℕ) → T (and (v .ok n) (above? (v .low n))) → 0 < amount (ofFrac (y .high n)) .num
+      high-above n t = above (low-above n t) (amount≼ (ofFrac≼ (k .apart n n (e .there n (ok-at n t)) (e .there n (ok-at n t)))))
+
+      same : (a b : Signed) → a ≈ₛ b → 0 < amount b .num → ofFrac (1F ÷ amount a) ≈ₛ ofFrac (1F ÷ amount b)
+      same a b e z = record { to = ofFrac≼ (÷≼ z (refl≼ 1F) (amount≼ (e .from))); from = ofFrac≼ (÷≼ (above z (amount≼ (e .from))) (refl≼ 1F) (amount≼ (e .to))) }
+
   pub lift-quot : lift x /ᵥ lift y ≐ lift (quotP x y)
   lift-quot = trans≐ (mul≐ (refl≐ (lift x)) lift-recip) (trans≐ (lift-mul x (quotP (known 1F) y) h (quot⊴ₚ (known⊴ₚ (refl≼ 1F)) k)) (record {
     there = λ n t. t;
@@ -166,3 +188,7 @@ module _ (x y : Plain) (h : x ⊴ₚ x) (k : y ⊴ₚ y) where
 
       same : (a b : Frac) → 0 < b .num → ofFrac (a ⊗ (1F ÷ b)) ≈ₛ ofFrac (a ÷ b)
       same a b z = record { to = ofFrac≼ (÷-inv a b z .from); from = ofFrac≼ (÷-inv a b z .to) }
+
+  -- of values that have the fractions of x and of y
+  pub quot-same : {u v : Value} → u ≐ lift x → v ≐ lift y → u /ᵥ v ≐ lift (quotP x y)
+  quot-same e f = trans≐ (mul≐ e (recip-same f)) lift-quot

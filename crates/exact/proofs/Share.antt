@@ -1,21 +1,24 @@
 -- The attained share of a cable in plain values: no lower fraction at m minutes exceeds an upper one at m' ≥ m minutes, the gaps vanish, and every
 -- order from 1 gives bounds. `SignedShare` carries this to the definitions of specs/Share.antt.
-use Prim.Native.Nat.{ℕ, _*_, _≤_, _<_}
-use mathlib.Core.List.{[], _∷_}
+use Prim.Native.Nat.{ℕ, _+_, _*_, _≤_, _<_}
+use mathlib.Core.List.{List, [], _∷_, map}
 use lib.Dec.{T}
+use lib.IntN.{natAbs}
 use native.Mathlib.Nat.{mul-pos, zero-lt-suc, mul-le-mul, mul-le-mul-right, le-refl}
 use native.Mathlib.Omega.{arith}
 use Rattle.numbers.specs.Fraction.{Frac, _≼_, _≈_, 1F, _⊕_, _⊗_, _÷_, _∸_}
 use Rattle.numbers.proofs.Fractions.{refl≼, trans≼, mul≼, above, sym≈, trans≈, mul≈, per-is, per-above, per≼, whole≼, one-above, ÷-above}
-use Rattle.numbers.proofs.FractionProver.{qv, qn, _+'_, _*'_, q-le, le, eq, q-from, q-eqfrom}
+use Rattle.numbers.proofs.FractionProver.{qv, qn, _+'_, _*'_, q-le, le, q-from}
 use Rattle.numbers.proofs.Subtraction.{less-on, less-exact}
 use Rattle.exact.specs.Exponential.{expLow, expHigh}
 use Rattle.exact.specs.Value.{fromOne}
-use Rattle.exact.specs.Share.{CableNumbers, Accepted, seconds, millionths, exponent, nearEnd, farEnd, ratio}
+use Rattle.exact.specs.Share.{CableNumbers, Neighbour, between, sourceOf, sources, InTrench, AllInTrench, Accepted, seconds, millionths, exponent, nearEnd, farEnd, ratio}
+use Rattle.exact.specs.Share as exact
 use Rattle.exact.proofs.Exponential.{low-one, high-one}
 use Rattle.exact.proofs.Plain.{Plain, _⊴ₚ_, both, known, addP, mulP, lessP, quotP, known⊴ₚ, add⊴ₚ, mul⊴ₚ, less⊴ₚ, quot⊴ₚ}
 use Rattle.exact.proofs.PlainFine.{FineP, fineP-known, fineP-add, fineP-less, fineP-mul, quot-ok, fineP-quot}
 use Rattle.exact.proofs.Parts.{expP, integralP, lnP, exp⊴ₚ, fineP-exp, integral⊴ₚ, ln⊴ₚ, fineP-integral, fineP-ln, end-above, ln-least}
+use Rattle.exact.proofs.Sources.{span-of-ratio, spans-fall, spans-alike, Apart, AllApart, none, more, Soil, heatingOn, logOn, log-on⊴ₚ, fine-log-on, log-on-least, log-on-ok, log-on-own, fine-heating-on, heating-on-ok, heating-on-rises}
 
 -- w·e^(−fast·t) + (1−w)·e^(−slow·t)
 abbrev pub lagP : CableNumbers → ℕ → Plain
@@ -37,8 +40,15 @@ heatingP c m = integralP (nearEnd c m) (spanOf c m)
 abbrev pub logP : CableNumbers → Plain
 logP c = lnP 1F (beyondOne c)
 
+-- of the cable with its neighbours
+abbrev pub groupHeatingP : CableNumbers → ℕ → Plain
+groupHeatingP c m = heatingOn (c .s) m (heatingP c m) (sources c)
+
+abbrev pub groupLogP : CableNumbers → Plain
+groupLogP c = logOn (logP c) (sources c)
+
 abbrev pub betaP : CableNumbers → ℕ → Plain
-betaP c m = quotP (heatingP c m) (logP c)
+betaP c m = quotP (groupHeatingP c m) (groupLogP c)
 
 abbrev pub surfaceP : CableNumbers → ℕ → Plain
 surfaceP c m = addP (known (1F ∸ millionths (c .k))) (mulP (known (millionths (c .k))) (betaP c m))
@@ -97,9 +107,7 @@ module _ (c : CableNumbers) (m : ℕ) (a : Accepted c m) where
 
   -- q − p is p times r − 1
   pub span-is : spanOf c m ≈ beyondOne c ⊗ nearEnd c m
-  span-is = q-eqfrom (nearEnd c m ∷ farEnd c m ∷ ratio c ∷ spanOf c m ∷ beyondOne c ∷ [])
-      (eq (qn 1) (qn 0) (qv 0 +' qv 3) (qv 1) ∷ eq (qn 0) (qn 1) (qv 0 *' qv 2) (qv 1) ∷ eq (qn 0) (qv 0) (qn 1 +' qv 4) (qv 2) ∷ []) (qv 3) (qv 4 *' qv 0) tt tt
-      span-uncut far-is ratio-uncut
+  span-is = span-of-ratio (nearEnd c m) (farEnd c m) (ratio c) span-uncut ratio-uncut far-is
 
   pub weight-one : millionths (c .w) ≼ 1F
   weight-one = millionths-one (a .cable .w-to)
@@ -107,11 +115,41 @@ module _ (c : CableNumbers) (m : ℕ) (a : Accepted c m) where
   pub surface-one : millionths (c .k) ≼ 1F
   surface-one = millionths-one (a .cable .k-to)
 
+-- ---- the neighbours: d is at least 100, so that c is not 0
+apart-of : (c : CableNumbers) (n : Neighbour) → 100 ≤ c .d → InTrench c n → Apart (sourceOf (c .l) n)
+apart-of c n h t = record { some = above-zero (sourceOf (c .l) n .near) (mul-le-mul h h) (t .apart); order = further (c .l) (n .depth) }
+  where
+    above-zero : (x : ℕ) → 100 * 100 ≤ c .d * c .d → c .d * c .d ≤ 100 * x → 0 < x
+    above-zero x i j = omega arith
+
+    shorter : (a b : ℕ) → between a b ≤ a + b
+    shorter a b = omega arith
+
+    further : (a b : ℕ) → natAbs (n .offset) * natAbs (n .offset) + between a b * between a b ≤ natAbs (n .offset) * natAbs (n .offset) + (a + b) * (a + b)
+    further a b = omega (arith, mul-le-mul (shorter a b) (shorter a b))
+
+all-apart : (c : CableNumbers) {ns : List Neighbour} → 100 ≤ c .d → AllInTrench c ns → AllApart (map (sourceOf (c .l)) ns)
+all-apart c h exact.none = none
+all-apart c h (exact.more {n} t r) = more (apart-of c n h t) (all-apart c h r)
+
 pub log⊴ₚ : (c : CableNumbers) → logP c ⊴ₚ logP c
 log⊴ₚ c = ln⊴ₚ 1F (beyondOne c) 1F (beyondOne c) one-above one-above (refl≼ (beyondOne c ⊗ 1F))
 
 pub fine-logP : (c : CableNumbers) → FineP (logP c)
 fine-logP c = fineP-ln 1F (beyondOne c) one-above
+
+pub group-log⊴ₚ : (c : CableNumbers) → groupLogP c ⊴ₚ groupLogP c
+group-log⊴ₚ c = log-on⊴ₚ (sources c) (log⊴ₚ c)
+
+pub fine-group-logP : (c : CableNumbers) → FineP (groupLogP c)
+fine-group-logP c = fine-log-on (sources c) (fine-logP c)
+
+module _ (c : CableNumbers) (m : ℕ) (a : Accepted c m) where
+  pub soil : Soil (c .s) m
+  soil = omega (arith, mul-pos (minutes-above c m a) (s-above c m a))
+
+  pub all-sources : AllApart (sources c)
+  all-sources = all-apart c (a .cable .d-from) (a .neighbours)
 
 -- w·x + (1 − w)·y is at most 1 where x and y are
 pub weighed-one : (w x y : Frac) → w ≼ 1F → x ≼ 1F → y ≼ 1F → w ⊗ x ⊕ (1F ∸ w) ⊗ y ≼ 1F
@@ -123,12 +161,10 @@ module _ (c : CableNumbers) (m m' : ℕ) (a : Accepted c m) (a' : Accepted c m')
   near-falls = per≼ (5 * c .d * c .d) (8 * seconds m' * c .s) (5 * c .d * c .d) (8 * seconds m * c .s) (near-den c m' a') (near-den c m a) (omega (arith, mul-le-mul-right (2400 * c .s * c .d * c .d) h))
 
   span-falls : spanOf c m' ≼ spanOf c m
-  span-falls = q-from (nearEnd c m ∷ nearEnd c m' ∷ spanOf c m ∷ spanOf c m' ∷ beyondOne c ∷ [])
-      (eq (qn 1) (qn 0) (qv 3) (qv 4 *' qv 1) ∷ le (qv 4) (qv 1) (qv 0) ∷ eq (qn 0) (qn 1) (qv 2) (qv 4 *' qv 0) ∷ []) (qv 3) (qv 2) tt (span-is c m' a') near-falls (span-is c m a)
+  span-falls = spans-fall (nearEnd c m) (nearEnd c m') (beyondOne c) (spanOf c m) (spanOf c m') (span-is c m a) (span-is c m' a') near-falls
 
   same-ratio : spanOf c m ⊗ nearEnd c m' ≼ spanOf c m' ⊗ nearEnd c m
-  same-ratio = q-from (nearEnd c m ∷ nearEnd c m' ∷ spanOf c m ∷ spanOf c m' ∷ beyondOne c ∷ [])
-      (eq (qn 0) (qv 0) (qv 3) (qv 4 *' qv 1) ∷ eq (qv 1) (qn 0) (qv 2) (qv 4 *' qv 0) ∷ []) (qv 2 *' qv 1) (qv 3 *' qv 0) tt (span-is c m' a') (span-is c m a)
+  same-ratio = spans-alike (nearEnd c m) (nearEnd c m') (beyondOne c) (spanOf c m) (spanOf c m') (span-is c m a) (span-is c m' a')
 
   later : (rate : ℕ) → exponent rate m ≼ exponent rate m'
   later rate = mul≼ (refl≼ (millionths rate)) (whole≼ (omega (arith, mul-le-mul-right 60 h)))
@@ -136,8 +172,11 @@ module _ (c : CableNumbers) (m m' : ℕ) (a : Accepted c m) (a' : Accepted c m')
   pub heating-risesP : heatingP c m ⊴ₚ heatingP c m'
   heating-risesP = integral⊴ₚ (nearEnd c m) (spanOf c m) (nearEnd c m') (spanOf c m') (near-above c m a) (near-above c m' a') same-ratio near-falls span-falls
 
+  pub group-heating-risesP : groupHeatingP c m ⊴ₚ groupHeatingP c m'
+  group-heating-risesP = heating-on-rises (c .s) m m' (soil c m a) (soil c m' a') h (all-sources c m a) heating-risesP
+
   pub beta-risesP : betaP c m ⊴ₚ betaP c m'
-  beta-risesP = quot⊴ₚ heating-risesP (log⊴ₚ c)
+  beta-risesP = quot⊴ₚ group-heating-risesP (group-log⊴ₚ c)
 
   pub attainment-risesP : attainmentP c m ⊴ₚ attainmentP c m'
   attainment-risesP = less⊴ₚ 1F (add⊴ₚ (mul⊴ₚ (known⊴ₚ (refl≼ (millionths (c .w)))) (exp⊴ₚ (later (c .fast)))) (mul⊴ₚ (known⊴ₚ (refl≼ (1F ∸ millionths (c .w)))) (exp⊴ₚ (later (c .slow)))))
@@ -160,8 +199,15 @@ module _ (c : CableNumbers) (m : ℕ) (a : Accepted c m) where
   pub fine-heatingP : FineP (heatingP c m)
   fine-heatingP = fineP-integral (nearEnd c m) (spanOf c m) (near-above c m a)
 
+  pub fine-group-heatingP : FineP (groupHeatingP c m)
+  fine-group-heatingP = fine-heating-on (c .s) m (soil c m a) (all-sources c m a) fine-heatingP
+
+  -- every lower fraction of the divisor
+  pub group-log-least : (n : ℕ) → T (groupLogP c .ok n) → logFloor ≼ groupLogP c .low n
+  group-log-least n t = log-on-least (logP c) n (sources c) (ln-least 1F (beyondOne c) one-above n (log-on-own (logP c) n (sources c) t))
+
   pub fine-betaP : FineP (betaP c m)
-  fine-betaP = fineP-quot (heatingP c m) (logP c) (heating-risesP c m m a a (le-refl m)) (log⊴ₚ c) fine-heatingP (fine-logP c) logFloor log-floor-above (ln-least 1F (beyondOne c) one-above)
+  fine-betaP = fineP-quot (groupHeatingP c m) (groupLogP c) (group-heating-risesP c m m a a (le-refl m)) (group-log⊴ₚ c) fine-group-heatingP (fine-group-logP c) logFloor log-floor-above group-log-least
 
   fine-lagP : FineP (lagP c m)
   fine-lagP = fineP-add (weighed (millionths (c .w)) (exponent (c .fast) m)) (weighed (1F ∸ millionths (c .w)) (exponent (c .slow) m))
@@ -179,7 +225,8 @@ module _ (c : CableNumbers) (m : ℕ) (a : Accepted c m) where
   fine-shareP = fineP-mul (surface-risesP c m m a a (le-refl m)) (attainment-risesP c m m a a (le-refl m)) fine-surfaceP fine-attainmentP
 
   pub beta-okP : (n : ℕ) → T (fromOne n) → T (betaP c m .ok n)
-  beta-okP n h = quot-ok (heatingP c m) (logP c) (heating-risesP c m m a a (le-refl m)) (log⊴ₚ c) fine-heatingP (fine-logP c) logFloor log-floor-above (ln-least 1F (beyondOne c) one-above) n h h
+  beta-okP n h = quot-ok (groupHeatingP c m) (groupLogP c) (group-heating-risesP c m m a a (le-refl m)) (group-log⊴ₚ c) fine-group-heatingP (fine-group-logP c) logFloor log-floor-above group-log-least n
+      (heating-on-ok (c .s) m (heatingP c m) n (sources c) h h) (log-on-ok (logP c) n (sources c) h h)
 
   pub attainment-okP : (n : ℕ) → T (fromOne n) → T (attainmentP c m .ok n)
   attainment-okP n h = both (fromOne n) (fromOne n) h h

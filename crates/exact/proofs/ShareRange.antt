@@ -13,13 +13,14 @@ use Rattle.numbers.proofs.Strict.{above-strict, strictly}
 use Rattle.exact.specs.Exponential.{term, expSum, expSumOver, enough, expLow, expHigh}
 use Rattle.exact.specs.Cutting.{cutAt, integralLow}
 use Rattle.exact.specs.Value.{fromOne}
-use Rattle.exact.specs.Share.{CableNumbers, Accepted, millionths, exponent, nearEnd}
+use Rattle.exact.specs.Share.{CableNumbers, sources, Accepted, millionths, exponent, nearEnd}
 use Rattle.exact.proofs.Exponential.{over-falls-on, expSumOver-above, expSum-inv, enough-of, low-falls}
 use Rattle.exact.proofs.Cutting.{cut-above, cut-end}
 use Rattle.exact.proofs.Vanishing.{twice}
 use Rattle.exact.proofs.Plain.{_⊴ₚ_}
-use Rattle.exact.proofs.Parts.{integral⊴ln, ln-least}
-use Rattle.exact.proofs.Share.{lagP, attainmentP, spanOf, beyondOne, heatingP, logP, betaP, surfaceP, shareP, near-above, beyond-above, span-is, weight-one, surface-one, log⊴ₚ, log-floor-above, fine-betaP, lag-low-one}
+use Rattle.exact.proofs.Parts.{integral⊴ln}
+use Rattle.exact.proofs.Sources.{log-on-ok, heating-on⊴log-on, heating-on-least, heating-on-ok}
+use Rattle.exact.proofs.Share.{lagP, attainmentP, spanOf, beyondOne, heatingP, logP, groupHeatingP, groupLogP, betaP, surfaceP, shareP, near-above, beyond-above, span-is, weight-one, surface-one, group-log⊴ₚ, soil, all-sources, log-floor-above, group-log-least, fine-betaP, lag-low-one}
 
 -- ---- e^(−x) away from 0 and from 1
 -- the lower fraction of order 2·num, above 0; those of higher orders are no smaller
@@ -76,14 +77,25 @@ module _ (c : CableNumbers) (m : ℕ) (a : Accepted c m) where
   slowBy = exponent (c .slow) m
 
   -- ---- no lower fraction is above 1
-  log-high-above : (n : ℕ) → T (fromOne n) → 0 < (logP c .high n) .num
-  log-high-above n t = above (log-floor-above c m a) (trans≼ (ln-least 1F (beyondOne c) one-above n t) (log⊴ₚ c .apart n n t t))
-
   pub heating⊴log : heatingP c m ⊴ₚ logP c
   heating⊴log = integral⊴ln (nearEnd c m) (spanOf c m) 1F (beyondOne c) (near-above c m a) one-above (q-from (nearEnd c m ∷ spanOf c m ∷ beyondOne c ∷ []) (eq (qn 1) (qn 0) (qv 1) (qv 2 *' qv 0) ∷ []) (qv 1 *' qn 1) (qv 2 *' qv 0) tt (span-is c m a))
 
-  beta-low-one : (n : ℕ) → T (fromOne n) → betaP c m .low n ≼ 1F
-  beta-low-one n t = ÷≼of 1F (logP c .high n) (heatingP c m .low n) (log-high-above n t) (trans≼ (heating⊴log .apart n n t t) (q-le (logP c .high n ∷ []) (qv 0) (qn 1 *' qv 0) tt))
+  -- the same of the sums over the neighbours
+  pub group-heating⊴log : groupHeatingP c m ⊴ₚ groupLogP c
+  group-heating⊴log = heating-on⊴log-on (c .s) m (soil c m a) (all-sources c m a) heating⊴log
+
+  heating-ok : (n : ℕ) → T (fromOne n) → T (groupHeatingP c m .ok n)
+  heating-ok n t = heating-on-ok (c .s) m (heatingP c m) n (sources c) t t
+
+  log-ok : (n : ℕ) → T (fromOne n) → T (groupLogP c .ok n)
+  log-ok n t = log-on-ok (logP c) n (sources c) t t
+
+  group-log-high-above : (n : ℕ) → T (fromOne n) → 0 < (groupLogP c .high n) .num
+  group-log-high-above n t = above (log-floor-above c m a) (trans≼ (group-log-least c m a n (log-ok n t)) (group-log⊴ₚ c .apart n n (log-ok n t) (log-ok n t)))
+
+  pub beta-low-one : (n : ℕ) → T (fromOne n) → betaP c m .low n ≼ 1F
+  beta-low-one n t = ÷≼of 1F (groupLogP c .high n) (groupHeatingP c m .low n) (group-log-high-above n t)
+      (trans≼ (group-heating⊴log .apart n n (heating-ok n t) (log-ok n t)) (q-le (groupLogP c .high n ∷ []) (qv 0) (qn 1 *' qv 0) tt))
 
   surface-low-one : (n : ℕ) → T (fromOne n) → surfaceP c m .low n ≼ 1F
   surface-low-one n t = q-from (millionths (c .k) ∷ (1F ∸ millionths (c .k)) ∷ betaP c m .low n ∷ []) (le (qv 0) (qv 2) (qn 1) ∷ le (qn 1) (qv 0 +' qv 1) (qn 1) ∷ []) (qv 1 +' qv 0 *' qv 2) (qn 1) tt (beta-low-one n t) (less-exact (surface-one c m a))
@@ -146,9 +158,12 @@ module _ (c : CableNumbers) (m : ℕ) (a : Accepted c m) where
   span-above : 0 < (spanOf c m) .num
   span-above = above (mul-pos (beyond-above c m a) (near-above c m a)) (span-is c m a .from)
 
+  heating-low-above : 0 < (heatingP c m .low bottomOrder) .num
+  heating-low-above = integral-low-above (nearEnd c m) (spanOf c m) (near-above c m a) span-above (2 * fastBy .num + 2 * slowBy .num + 2 * (nearEnd c m ⊕ spanOf c m) .num) (omega arith)
+
   beta-low-above : 0 < (betaP c m .low bottomOrder) .num
-  beta-low-above = ÷-above (heatingP c m .low bottomOrder) (logP c .high bottomOrder)
-      (integral-low-above (nearEnd c m) (spanOf c m) (near-above c m a) span-above (2 * fastBy .num + 2 * slowBy .num + 2 * (nearEnd c m ⊕ spanOf c m) .num) (omega arith)) (log-high-above bottomOrder tt)
+  beta-low-above = ÷-above (groupHeatingP c m .low bottomOrder) (groupLogP c .high bottomOrder)
+      (above heating-low-above (heating-on-least (c .s) m (heatingP c m) bottomOrder (sources c) (refl≼ _))) (group-log-high-above bottomOrder tt)
 
   surface-low-above : 0 < (surfaceP c m .low bottomOrder) .num
   surface-low-above = above beta-low-above (q-from (millionths (c .k) ∷ (1F ∸ millionths (c .k)) ∷ betaP c m .low bottomOrder ∷ []) (le (qv 1) (qv 2) (qn 1) ∷ le (qv 2) (qn 1) (qv 0 +' qv 1) ∷ []) (qv 2) (qv 1 +' qv 0 *' qv 2) tt (beta-low-one bottomOrder tt) (less-on 1F (millionths (c .k))))

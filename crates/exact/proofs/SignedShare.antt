@@ -1,5 +1,6 @@
 -- The laws of the values that specs/Share.antt defines: attainment, J, β and G of an accepted cable and minute count.
 use Prim.Native.Nat.{ℕ, zero, suc, _≤_}
+use mathlib.Core.List.{List, [], _∷_}
 use lib.Dec.{T}
 use native.Mathlib.Nat.{le-refl}
 use native.Mathlib.Omega.{arith}
@@ -8,13 +9,14 @@ use Rattle.numbers.specs.Signed.{Signed, _≼ₛ_, _≺ₛ_, ofFrac, addS}
 use Rattle.numbers.proofs.Fractions.{refl≼, zero≼, one-above}
 use Rattle.numbers.proofs.Strict.{half, half-above}
 use Rattle.numbers.proofs.SignedFractions.{trans≼ₛ, ofFrac≼, ofFrac≺, ofFrac-below, le-strictₛ, strict-leₛ}
-use Rattle.exact.specs.Value.{AtMost, AtLeast, _⊴_, Fine, fromOne, number, expNeg, ln, _−ᵥ_, _·ᵥ_}
-use Rattle.exact.specs.Share.{CableNumbers, Accepted, millionths, exponent, ratio, attainment, heating, beta, surface, share}
-use Rattle.exact.proofs.Plain.{known, mulP, known⊴ₚ}
+use Rattle.exact.specs.Value.{Value, AtMost, AtLeast, _⊴_, Fine, fromOne, number, expNeg, ln, _−ᵥ_, _·ᵥ_}
+use Rattle.exact.specs.Share.{CableNumbers, Source, sources, Accepted, millionths, exponent, ratio, attainment, heating, sourceHeating, sourceLog, withHeatings, withLogs, beta, surface, share}
+use Rattle.exact.proofs.Plain.{Plain, and-0, and-1, known, addP, mulP, known⊴ₚ}
 use Rattle.exact.proofs.Values.{lift, lift⊴, at-least-join, fine-lift, gap-below}
 use Rattle.exact.proofs.Parts.{expP, exp⊴ₚ}
-use Rattle.exact.proofs.Lifting.{_≐_, refl≐, trans≐, ⊴-same, fine-same, add≐, neg≐, mul≐, lift-add, lift-mul, lift-less, less-twice, lift-quot}
-use Rattle.exact.proofs.Share.{lagP, attainmentP, heatingP, logP, betaP, surfaceP, shareP, weight-one, surface-one, log⊴ₚ, fine-logP, heating-risesP, beta-risesP, attainment-risesP, surface-risesP, share-risesP, fine-heatingP, fine-betaP, fine-attainmentP, fine-shareP, beta-okP, attainment-okP, share-okP, lag-high-one, lag-low-one}
+use Rattle.exact.proofs.Lifting.{_≐_, refl≐, trans≐, ⊴-same, fine-same, add≐, neg≐, mul≐, lift-add, lift-mul, lift-less, less-twice, quot-same}
+use Rattle.exact.proofs.Sources.{sourceHeatingP, sourceLogP, heatingOn, logOn}
+use Rattle.exact.proofs.Share.{lagP, attainmentP, heatingP, logP, groupHeatingP, groupLogP, betaP, surfaceP, shareP, weight-one, surface-one, fine-logP, heating-risesP, group-heating-risesP, group-log⊴ₚ, beta-risesP, attainment-risesP, surface-risesP, share-risesP, fine-heatingP, fine-betaP, fine-attainmentP, fine-shareP, beta-okP, attainment-okP, share-okP, lag-high-one, lag-low-one}
 use Rattle.exact.proofs.ShareRange.{heating⊴log, share-low-oneP, topOrder, share-below-oneP, bottomOrder, share-above-zeroP}
 
 -- ---- each has, order by order, the fractions of its plain value: nothing is cut off there
@@ -38,8 +40,16 @@ module _ (c : CableNumbers) (m : ℕ) (a : Accepted c m) where
       slowBy : Frac
       slowBy = exponent (c .slow) m
 
+  heatings-plain : {v : Value} (own : Plain) (xs : List Source) → v ≐ lift own → withHeatings (c .s) m v xs ≐ lift (heatingOn (c .s) m own xs)
+  heatings-plain own [] e = e
+  heatings-plain own (x ∷ xs) e = heatings-plain (addP own (sourceHeatingP (c .s) m x)) xs (trans≐ (add≐ e (refl≐ (sourceHeating (c .s) m x))) (lift-add own (sourceHeatingP (c .s) m x)))
+
+  logs-plain : {v : Value} (own : Plain) (xs : List Source) → v ≐ lift own → withLogs v xs ≐ lift (logOn own xs)
+  logs-plain own [] e = e
+  logs-plain own (x ∷ xs) e = logs-plain (addP own (sourceLogP x)) xs (trans≐ (add≐ e (refl≐ (sourceLog x))) (lift-add own (sourceLogP x)))
+
   pub beta-plain : beta c m ≐ lift (betaP c m)
-  beta-plain = lift-quot (heatingP c m) (logP c) (heating-risesP c m m a a (le-refl m)) (log⊴ₚ c)
+  beta-plain = quot-same (groupHeatingP c m) (groupLogP c) (group-heating-risesP c m m a a (le-refl m)) (group-log⊴ₚ c) (heatings-plain (heatingP c m) (sources c) (refl≐ (heating c m))) (logs-plain (logP c) (sources c) (refl≐ (ln (ratio c))))
 
   pub surface-plain : surface c m ≐ lift (surfaceP c m)
   surface-plain = trans≐ (add≐ (complement k (surface-one c m a)) (trans≐ (mul≐ (refl≐ (number k)) beta-plain) (lift-mul (known k) (betaP c m) (known⊴ₚ (refl≼ k)) (beta-risesP c m m a a (le-refl m)))))
@@ -137,7 +147,7 @@ module _ (c : CableNumbers) (m : ℕ) (a : Accepted c m) where
   one-at-least = record { least = λ n t. go n t }
     where
       go : (n : ℕ) → T (share c m .ok n) → share c m .low n ≼ₛ ofFrac 1F
-      go zero t = absurd (share-plain c m a .there zero t)
+      go zero t = absurd (and-0 (fromOne 0) (fromOne 0) (and-1 (surfaceP c m .ok 0) (attainmentP c m .ok 0) (share-plain c m a .there zero t)))
       go (suc n) t = share-low-one (suc n) tt
 
   pub log-caps-heating : {v : Signed} → AtLeast v (ln (ratio c)) → AtLeast v (heating c m)

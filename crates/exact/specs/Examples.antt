@@ -1,15 +1,17 @@
 -- Worked examples of the definitions, each by computation. The values on the right were worked out apart from these definitions, with exact
--- fractions, from document 01, 'Exact values without reals' and 'The attained share'.
+-- fractions, from document 01, 'Exact values without reals' and 'The attained share', and document 02, note 2.
 use Prim.Native.Nat.{ℕ, _+_, _*_}
 use mathlib.Core.Bool.{true, false}
 use mathlib.Core.Path.{_≡_, refl}
+use mathlib.Core.List.{[], _∷_}
 use lib.Dec.{T, leb→le}
+use lib.IntN.{pos, negsuc}
 use Rattle.numbers.specs.Fraction.{Frac, _≈_, _≼?_, _per_, whole, 0F, 1F, _∸_}
 use Rattle.numbers.specs.Signed.{Signed, _≈ₛ_, _≼ₛ?_, ofFrac, negS, minS, maxS}
 use Rattle.exact.specs.Exponential.{expLow, expHigh}
 use Rattle.exact.specs.Cutting.{integralLow, integralHigh, lnLow, lnHigh}
 use Rattle.exact.specs.Value.{Value, number, integral, ln, _+ᵥ_, _−ᵥ_, _·ᵥ_, reciprocal, _/ᵥ_, _⊔ᵥ_, largestᵥ}
-use Rattle.exact.specs.Share.{CableNumbers, exponent, nearEnd, farEnd, ratio, attainment, beta, share}
+use Rattle.exact.specs.Share.{CableNumbers, sources, InTrench, exponent, nearEnd, farEnd, ratio, attainment, sourceEnd, beta, share}
 
 same : (a b : Frac) → T (a ≼? b) → T (b ≼? a) → a ≈ b
 same a b h k = record { to = record { cross = leb→le _ _ h }; from = record { cross = leb→le _ _ k } }
@@ -138,7 +140,7 @@ no-order-zero = refl
 
 -- ---- cable A at 60 minutes, and cable B's exponent at 1 minute
 abbrev cableA : CableNumbers
-cableA = record { d = 500; l = 1000; s = 500; k = 600000; w = 500000; fast = 1000; slow = 100 }
+cableA = record { d = 500; l = 1000; s = 500; k = 600000; w = 500000; fast = 1000; slow = 100; neighbours = [] }
 
 near-A : nearEnd cableA 60 ≈ 25 per 288
 near-A = same _ _ tt tt
@@ -160,7 +162,7 @@ fast-B = same _ _ tt tt
 
 -- ---- a small cable at order 1; its k and w are not those of 1 − k and 1 − w
 abbrev small : CableNumbers
-small = record { d = 100; l = 300; s = 2000; k = 250000; w = 200000; fast = 5; slow = 1 }
+small = record { d = 100; l = 300; s = 2000; k = 250000; w = 200000; fast = 5; slow = 1; neighbours = [] }
 
 attainment-small : Ends (attainment small 2880) 1 (ofFrac (432 per 3665)) (ofFrac (157289 per 469789))
 unfolding minS maxS
@@ -173,3 +175,34 @@ beta-small = record { low-is = sameₛ _ _ tt tt; high-is = sameₛ _ _ tt tt }
 share-small : Ends (share small 2880) 1 (ofFrac (99153828 per 1121581625)) (ofFrac (11388128133009 per 9446517212))
 unfolding minS maxS _∸_
 share-small = record { low-is = sameₛ _ _ tt tt; high-is = sameₛ _ _ tt tt }
+
+-- ---- the small cable with one neighbour 200 mm to its left at its own depth, and one 300 mm to its right and 100 mm deeper
+abbrev trench : CableNumbers
+trench = record {
+  d = 100;
+  l = 300;
+  s = 2000;
+  k = 250000;
+  w = 200000;
+  fast = 5;
+  slow = 1;
+  neighbours = record { offset = negsuc 199; depth = 300 } ∷ record { offset = pos 300; depth = 400 } ∷ [];
+}
+
+sources-trench : sources trench ≡ record { near = 40000; image = 400000 } ∷ record { near = 100000; image = 580000 } ∷ []
+sources-trench = refl
+
+beta-trench : Ends (beta trench 2880) 1 (ofFrac (1304905168147280251 per 9760105174336693747480)) (ofFrac (4530821995675883520 per 857474667853559))
+unfolding minS maxS _∸_
+beta-trench = record { low-is = sameₛ _ _ tt tt; high-is = sameₛ _ _ tt tt }
+
+-- c²/(4tδ) and m²/(4tδ) of a neighbour 200 mm beside cable A, after 60 minutes
+near-beside-A : sourceEnd 500 60 40000 ≈ 50 per 9
+near-beside-A = same _ _ tt tt
+
+image-beside-A : sourceEnd 500 60 4040000 ≈ 5050 per 9
+image-beside-A = same _ _ tt tt
+
+-- c = d is not below d: cable A's d is 50 mm, and its neighbour lies 30 mm to the side and 40 mm deeper
+touching-A : InTrench cableA (record { offset = pos 30; depth = 1040 })
+touching-A = record { offset-to = leb→le _ _ tt; depth-from = leb→le _ _ tt; depth-to = leb→le _ _ tt; apart = leb→le _ _ tt }

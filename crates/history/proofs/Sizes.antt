@@ -11,13 +11,10 @@ use Rattle.bounds.specs.Operations.{pointB, addB, negB}
 use Rattle.bounds.specs.Promises.{Sized}
 use Rattle.bounds.specs.declared.Bounds.{Bounds}
 use Rattle.bounds.proofs.Sizes.{mul-sized}
-use Rattle.share.specs.Promises.{Millionths}
+use Rattle.distance.specs.Promised.{Millionths}
 use Rattle.sheet.specs.Header.{mostAmperes}
 use Rattle.history.specs.Rise.{changeOf, stepHeat, startHeat}
-
--- more than the size of a step's part: twice the largest square, in millionths
-abbrev pub stepMost : ℕ
-stepMost = 32000000000000
+use Rattle.history.specs.Walk.{stepMost}
 
 pub square-most : {a : ℕ} → a ≤ mostAmperes → a * a ≤ 16000000
 square-most h = mul-le-mul h h

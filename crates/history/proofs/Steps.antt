@@ -4,7 +4,7 @@ use mathlib.Core.Bool.{Bool, true, false, cond}
 use mathlib.Core.List.{List, [], _∷_}
 use Prim.Native.Nat.{ℕ, zero, suc, _≤_}
 use lib.Dec.{eqb}
-use Rattle.cable.proofs.Acceptance.{passed-within}
+use Rattle.refusals.proofs.Ranges.{passed-within}
 use Rattle.sheet.specs.Records.{mostMinutes, recordAt, checkedRecord}
 use Rattle.sheet.specs.Chain.{Step, Chain, steps, refused, stepOf, withStep, afterRecord, chainFrom}
 use Rattle.sheet.specs.declared.LoadRecord.{LoadRecord}

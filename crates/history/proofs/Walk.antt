@@ -1,6 +1,5 @@
 -- The walk along a chain: what a turn adds to the sum, the answer of the whole sheet is that of the rest, at every record.
 use mathlib.Core.Path.{_≡_, refl, sym, ap, _∙_}
-use mathlib.Core.Bool.{false}
 use mathlib.Core.List.{List, _∷_}
 use Prim.Native.Nat.{ℕ, suc, _*_}
 use native.Mathlib.Omega.{arith}
@@ -8,15 +7,12 @@ use lib.IntN.{pos, +ℤ-assoc, +ℤ-idr}
 use Rattle.bounds.specs.Operations.{pointB, addB, dividedB}
 use Rattle.bounds.specs.declared.Bounds.{Bounds}
 use Rattle.bounds.proofs.Enclosure.{same-ends}
-use Rattle.cable.specs.Checks.{outside, _to_, checked}
+use Rattle.cable.specs.Group.{only, alone}
 use Rattle.cable.specs.declared.Cable.{Cable}
-use Rattle.cable.specs.declared.Refusal.{Refusal}
-use Rattle.cable.specs.declared.CableCheck.the-variants as C
+use Rattle.refusals.specs.declared.Refusal.{Refusal}
 use Rattle.share.specs.Pair.{sharePair}
-use Rattle.share.specs.Answer.{mostMinutes, shareAnswer}
-use Rattle.share.specs.declared.ShareAnswer.the-variants as S
 use Rattle.sheet.specs.Header.{checkedHeader}
-use Rattle.sheet.specs.Records.{beforeFirst, recordAt, checkedRecord}
+use Rattle.sheet.specs.Records.{mostMinutes, beforeFirst, recordAt, checkedRecord}
 use Rattle.sheet.specs.Chain.{Step, Chain, steps, refused, stepOf, withStep, chainFrom}
 use Rattle.sheet.specs.declared.Header.{Header}
 use Rattle.sheet.specs.declared.HeaderCheck.the-variants as H
@@ -27,7 +23,8 @@ use Rattle.sheet.proofs.HeaderChecks.{accepted-header}
 use Rattle.sheet.proofs.RecordChecks.{header-held}
 use Rattle.sheet.proofs.ChainTurns.{chain-ends, chain-refused, chain-goes-on}
 use Rattle.history.specs.Rise.{stepHeat, startHeat, sumOf, riseOf}
-use Rattle.history.specs.Answer.{afterChain, riseAnswer, Begins}
+use Rattle.history.specs.Answer.{afterChain, riseAnswer}
+use Rattle.history.specs.Walk.{Begins}
 use Rattle.history.specs.declared.RiseAnswer.{RiseAnswer}
 use Rattle.history.specs.declared.RiseAnswer.the-variants.{Rise, Refused}
 
@@ -88,22 +85,17 @@ module _ (s : List ℕ) where
   header-refused e = rw (e, riseAnswer)
 
   -- the walk begins with the header's own record and its current's part
-  pub rest-of-all : {h : Header} → checkedHeader s ≡ H.Accepted h → rest (sharePair (h .cable)) (h .cable .rated) s (beforeFirst (h .start) (h .link)) (startHeat (h .start)) ≡ riseAnswer s
+  pub rest-of-all : {h : Header} → checkedHeader s ≡ H.Accepted h → rest (sharePair (alone (h .cable))) (alone (h .cable) .cable .rated) s (beforeFirst (h .start) (h .link)) (startHeat (h .start)) ≡ riseAnswer s
   unfolding riseAnswer rest riseWith riseOf
   rest-of-all {h} e =
-      ap (λ (g : Header). afterChain (chainFrom (suc (suc mostMinutes)) s (beforeFirst (g .start) (g .link))) (riseOf (sharePair (h .cable)) (h .start) (h .cable .rated))) (accepted-header s e .is)
-      ∙ rw (e, riseAnswer)
-
--- an accepted cable and an accepted record's minutes have a share
-pub share-answered : (cable : Cable) (minutes : ℕ) {c : Cable} → checked cable ≡ C.Accepted c → outside (1 to mostMinutes) minutes ≡ false → shareAnswer cable minutes ≡ S.Pair (sharePair cable minutes)
-unfolding shareAnswer
-share-answered cable minutes a o = rw (a, o, shareAnswer)
+      let is = accepted-header s e .is in
+      ap (λ (g : Header). rest (sharePair (alone (h .cable))) (alone (h .cable) .cable .rated) s (beforeFirst (g .start) (g .link)) (startHeat (g .start))) is ∙ rw (e, riseAnswer)
 
 -- ---- where a walk begins
 
-module _ (s : List ℕ) {h : Header} (e : checkedHeader s ≡ H.Accepted h) where
-  pub begins-plain : {first : LoadRecord} → first ≡ beforeFirst (h .start) (h .link) → Begins s (h .cable) first
-  begins-plain f = rw f (record { header = e; record-0 = refl })
+module _ (s : List ℕ) {h : Header} (e : checkedHeader s ≡ H.Accepted h) {used : Cable} (u : only used ≡ alone (h .cable)) where
+  pub begins-plain : {first : LoadRecord} → first ≡ beforeFirst (h .start) (h .link) → Begins s used first
+  begins-plain f = rw f (record { cable = h .cable; header = e; used-is = u; record-0 = refl })
 
   -- the header is held as record 0
   header-read : recordAt s 0 ≡ Held (beforeFirst (h .start) (h .link))
@@ -111,7 +103,7 @@ module _ (s : List ℕ) {h : Header} (e : checkedHeader s ≡ H.Accepted h) wher
       let a = accepted-header s e in
       sym (header-held s 0 (a .length-right) (omega arith) refl) ∙ ap (λ (g : Header). Held (beforeFirst (g .start) (g .link))) (sym (a .is))
 
-  pub begins-read : {first : LoadRecord} → recordAt s 0 ≡ Held first → Begins s (h .cable) first
+  pub begins-read : {first : LoadRecord} → recordAt s 0 ≡ Held first → Begins s used first
   begins-read {first} r = let f : first ≡ beforeFirst (h .start) (h .link) = cc header-read in begins-plain f
 
   pub header-not-missing : recordAt s 0 ≡ Missing → ⊥

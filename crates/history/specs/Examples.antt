@@ -12,9 +12,9 @@ use Rattle.numbers.specs.Rounding.{floorZ, ceilZ}
 use Rattle.bounds.specs.Operations.{addB, mulB, dividedB}
 use Rattle.bounds.specs.declared.Bounds.{Bounds}
 use Rattle.exact.specs.Value.{integer}
-use Rattle.cable.specs.Checks.{outsideField, checked}
-use Rattle.cable.specs.Stated.{no-place, a-record}
-use Rattle.cable.specs.declared.Place.the-variants as P
+use Rattle.cable.specs.Checks.{outsideField, checked, inUse}
+use Rattle.refusals.specs.Stated.{no-place, a-record}
+use Rattle.refusals.specs.declared.Place.the-variants as P
 use Rattle.sheet.specs.BigEndian.{bigEndian}
 use Rattle.sheet.specs.Layout.{wrongLength}
 use Rattle.sheet.specs.Header.{cableOf, checkedHeader}
@@ -116,7 +116,7 @@ sheet-with rest = 0 ∷ 0 ∷ 1 ∷ 244 ∷ 0 ∷ 0 ∷ 3 ∷ 232 ∷ 0 ∷ 0 �
 
 -- 200 A of the rated 400 A, for ever
 steady : riseAnswer (sheet-with (0 ∷ 200 ∷ 0 ∷ 0 ∷ [])) ≡ Rise (rise (pos 250000) (pos 250000))
-unfolding riseAnswer checkedHeader wrongLength checked outsideField cableOf bigEndian chainFrom riseOf sumOf addB dividedB floorZ ceilZ
+unfolding riseAnswer checkedHeader wrongLength checked outsideField cableOf bigEndian chainFrom riseOf sumOf addB dividedB floorZ ceilZ inUse
 steady = refl
 
 -- the header passes, and the first link leads to no record

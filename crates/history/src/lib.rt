@@ -1,21 +1,28 @@
 // The rise of a cable after a load history: document 01, 'The load sheet'.
 ghost use mathlib.Core.Path.{_≡_};
-ghost use Prim.Native.Nat.{_*_, _≤_};
+ghost use Prim.Native.Nat.{_≤_};
 ghost use Rattle.bounds.specs.Operations.{pointB};
+ghost use Rattle.refusals.specs.Apart.{partsOf};
+ghost use Rattle.cable.specs.Group.{only};
+ghost use Rattle.share.specs.Pair.{sharePair};
 ghost use Rattle.sheet.specs.Header.{mostAmperes};
-ghost use Rattle.history.specs.Rise.{startHeat, changeOf};
-ghost use Rattle.history.specs.Answer.{RiseSaid, Begins};
+ghost use Rattle.history.specs.Rise.{changeOf};
+ghost use Rattle.history.specs.Answer.{statedRise, RiseSaid};
+ghost use Rattle.history.specs.declared.Turn.the-variants.{Next};
+ghost use Rattle.history.specs.Walk.{Begins, Turning, StepTo, beginAt, nextAt, turnOf, endOf};
 
 mod by_reader;
 
 use bounds::Bounds;
 pub use by_reader::rise_by_reader;
 use cable::Cable;
-use cable::Refusal;
+use refusals::Parts;
+use refusals::Refusal;
 use share::ShareAnswer;
 use sheet::HeaderCheck;
 use sheet::LoadRecord;
 use sheet::RecordCheck;
+use sheet::RecordRead;
 
 // The rise, low and high, in millionths of the rated steady rise, or the sheet's first refusal.
 pub enum RiseAnswer {
@@ -23,6 +30,19 @@ pub enum RiseAnswer {
     Refused(Refusal),
 }
 
+// Where a walk along the chain stands: at the last record that it reached, with the sum so far, in squared amperes times millionths.
+pub struct Reached {
+    pub last: LoadRecord,
+    pub sum: Bounds,
+}
+
+// What a turn of the walk leads to.
+pub enum Turn {
+    Next(Reached),
+    Refused(Refusal),
+}
+
+// The whole of a share, in millionths.
 const MILLION: u64 = 1000000;
 
 // The rise now, from the bytes of a sheet of any length. The sheet is only read.
@@ -30,44 +50,81 @@ pub fn rise(sheet: &[u8]) -> RiseAnswer
     ensures { λ r. ⌜ RiseSaid (now (sheet .entry)) r ⌝ }
 {
     let checked = sheet::check_header(sheet);
-    let HeaderCheck::Accepted(header) = checked else {
-        return RiseAnswer::Refused(sheet::header_refusal(checked));
-    };
-    let first = sheet::before_first(header.start, header.link);
-    let cable = header.cable;
-    chain_rise(sheet, cable, first)
-}
-
-// The walk along the chain of records, from the header's own on. Minutes fall from record to record.
-fn chain_rise(sheet: &[u8], cable: Cable, first: LoadRecord) -> RiseAnswer
-    requires { ⌜ Begins (now sheet) cable first ⌝ }
-    ensures { λ r. ⌜ RiseSaid (now (sheet .entry)) r ⌝ }
-{
-    let mut record = first;
-    let mut sum = start_heat(first.amperes);
-    loop {
-        if record.next == 0 {
-            break RiseAnswer::Rise(sum.divided(squared(cable.rated)));
+    match checked {
+        HeaderCheck::Refused(refusal) => RiseAnswer::Refused(refusal),
+        HeaderCheck::Accepted(header) => {
+            let used = cable::alone(header.cable);
+            let first = sheet::before_first(header.start, header.link);
+            chain_rise(sheet, used, first)
         }
-        let checked = sheet::check_record(record, sheet::record_at(sheet, record.next));
-        let RecordCheck::Accepted(next) = checked else {
-            break RiseAnswer::Refused(sheet::record_refusal(checked));
-        };
-        let answer = share::share(cable, next.minutes);
-        let ShareAnswer::Pair(pair) = answer else {
-            break RiseAnswer::Refused(share::refusal_of(answer));
-        };
-        sum = sum.add(change(record.amperes, next.amperes).mul(pair));
-        record = next;
     }
 }
 
-// The starting current's part of the sum: its square, in millionths.
-fn start_heat(start: u32) -> Bounds
-    requires { ⌜ start ≤ mostAmperes ⌝ }
-    ensures { λ r. ⌜ r ≡ startHeat start ⌝ }
+// The walk along the chain of records, from the header's own on. Minutes fall from record to record.
+fn chain_rise(sheet: &[u8], used: Cable, first: LoadRecord) -> RiseAnswer
+    requires { ⌜ Begins (now sheet) used first ⌝ }
+    ensures { λ r. ⌜ RiseSaid (now (sheet .entry)) r ⌝ }
 {
-    Bounds::whole(squared(start) * MILLION)
+    let mut at = begin(first);
+    loop {
+        let last = at.last;
+        if last.next == 0 {
+            break RiseAnswer::Rise(end(used, at));
+        }
+        let turn = step(used, at, sheet::record_at(sheet, last.next));
+        match turn {
+            Turn::Refused(refusal) => break RiseAnswer::Refused(refusal),
+            Turn::Next(next) => at = next,
+        }
+    }
+}
+
+// Before the first step: the starting current's part of the sum is its square, in millionths.
+fn begin(first: LoadRecord) -> Reached
+    requires { ⌜ first .amperes ≤ mostAmperes ⌝ }
+    ensures { λ r. ⌜ r ≡ beginAt first ⌝ }
+{
+    let sum = Bounds::whole(numbers::square(first.amperes) * MILLION);
+    Reached { last: first, sum }
+}
+
+// One turn of the walk: what was read at the link is checked, and the change of its step times its share is added; or its refusal is handed out.
+fn step(used: Cable, at: Reached, read: RecordRead) -> Turn
+    requires { ⌜ Turning used at ⌝ }
+    ensures { λ r. ⌜ r ≡ turnOf (sharePair (only used)) at read ⌝ }
+{
+    let last = at.last;
+    let checked = sheet::check_record(last, read);
+    match checked {
+        RecordCheck::Refused(refusal) => Turn::Refused(refusal),
+        RecordCheck::Accepted(next) => step_to(used, at, next),
+    }
+}
+
+// The turn to a record that was checked. Its minutes are those of a share, so the share is not refused.
+fn step_to(used: Cable, at: Reached, next: LoadRecord) -> Turn
+    requires { ⌜ (Turning used at) × (StepTo next) ⌝ }
+    ensures { λ r. ⌜ r ≡ Next (nextAt (sharePair (only used)) at next) ⌝ }
+{
+    let answer = share::share_of(used, next.minutes);
+    let ShareAnswer::Pair(pair) = answer else {
+        return Turn::Refused(refusals::refusal_in(share::parts(answer)));
+    };
+    let last = at.last;
+    let sum = at.sum;
+    Turn::Next(Reached {
+        last: next,
+        sum: sum.add(change(last.amperes, next.amperes).mul(pair)),
+    })
+}
+
+// The rise, once the chain has ended: one division, by the squared rated current.
+fn end(used: Cable, at: Reached) -> Bounds
+    requires { ⌜ Turning used at ⌝ }
+    ensures { λ r. ⌜ r ≡ endOf used at ⌝ }
+{
+    let sum = at.sum;
+    sum.divided(numbers::square(used.rated))
 }
 
 // The signed change of the squared current at a step.
@@ -75,13 +132,15 @@ fn change(previous: u32, amperes: u32) -> Bounds
     requires { ⌜ (previous ≤ mostAmperes) × (amperes ≤ mostAmperes) ⌝ }
     ensures { λ r. ⌜ r ≡ pointB (changeOf previous amperes) ⌝ }
 {
-    Bounds::whole(squared(amperes)).add(Bounds::whole(squared(previous)).neg())
+    Bounds::whole(numbers::square(amperes)).add(Bounds::whole(numbers::square(previous)).neg())
 }
 
-fn squared(amperes: u32) -> u64
-    requires { ⌜ amperes ≤ mostAmperes ⌝ }
-    ensures { λ r. ⌜ r ≡ amperes * amperes ⌝ }
+// What an answer states.
+pub fn parts(answer: RiseAnswer) -> Parts
+    ensures { λ r. ⌜ r ≡ partsOf (statedRise answer) ⌝ }
 {
-    let wide = amperes as u64;
-    wide * wide
+    match answer {
+        RiseAnswer::Rise(pair) => refusals::of_pair(pair),
+        RiseAnswer::Refused(refusal) => refusals::of_refusal(refusal),
+    }
 }

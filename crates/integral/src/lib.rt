@@ -1,6 +1,6 @@
 // The logarithm and the heating integral of any two squared distances, in fixed point: both are whole numbers of 2^-30.
 ghost use mathlib.Core.Path.{_≡_};
-ghost use Prim.Native.Nat.{_*_, _/_, _<_, min, max};
+ghost use Prim.Native.Nat.{_*_, _/_, _<_, max};
 ghost use Rattle.bounds.specs.Pair.{asBounds};
 ghost use Rattle.model.specs.Logarithm.{logarithmSlice, logarithm};
 ghost use Rattle.model.specs.Integral.{Stretch, slicePair, nextEnd, sliceStart, farPair, heatingIntegral};
@@ -74,12 +74,6 @@ fn next_rest(x: u64, y: u64, diffusion: u64, rest: Bounds) -> Bounds
     }
 }
 
-fn least(a: u64, b: u64) -> u64
-    ensures { λ r. ⌜ r ≡ min a b ⌝ }
-{
-    if a < b { a } else { b }
-}
-
 fn greatest(a: u64, b: u64) -> u64
     ensures { λ r. ⌜ r ≡ max a b ⌝ }
 {
@@ -91,7 +85,7 @@ fn next_end(near: u64, y: u64, diffusion: u64) -> u64
     requires { ⌜ near < y ⌝ }
     ensures { λ r. ⌜ r ≡ nextEnd near y diffusion ⌝ }
 {
-    let step = least(y / 2, diffusion);
+    let step = numbers::least(y / 2, diffusion);
     if step < y - near { y - step } else { near }
 }
 

@@ -2,8 +2,8 @@
 use mathlib.Core.Path.{_≡_, refl}
 use mathlib.Core.List.{[], _∷_}
 use lib.IntN.{pos}
-use Rattle.cable.specs.Stated.{statedValues, statedRefusal}
-use Rattle.cable.specs.declared.Place.the-variants.{None, Field, Record, Hour, Input}
+use Rattle.refusals.specs.Stated.{statedValues, statedRefusal}
+use Rattle.refusals.specs.declared.Place.the-variants.{None, Field, Record, Hour, Input}
 use Rattle.kechmowad.specs.Crossing.{crossing}
 
 -- "35 bytes"

@@ -1,12 +1,15 @@
 -- Document 01, 'Cases': "the word, low, high, in decimal, a negative number with a leading minus sign. For a refusal it prints `refused`, number, place
 -- (0 for none)".
 use mathlib.Core.Path.{_≡_}
+use mathlib.Core.Bool.{cond}
 use mathlib.Core.List.{List, [], _∷_, _++_}
 use Prim.Native.Nat.{ℕ, _≤_}
-use Rattle.bounds.specs.declared.Bounds.{Bounds}
-use Rattle.cable.specs.Stated.{placeNumber}
-use Rattle.cable.specs.declared.Refusal.{Refusal}
-use Rattle.text.specs.Writing.{decimalText, signedText, written}
+use lib.Dec.{eqb}
+use lib.IntN.{ℤ}
+use Rattle.refusals.specs.Stated.{Stated}
+use Rattle.refusals.specs.Apart.{partsOf}
+use Rattle.refusals.specs.declared.Parts.{Parts}
+use Rattle.text.specs.Writing.{decimalText, signedText, lineRoom, written}
 use Rattle.text.specs.declared.Line.{Line}
 
 abbrev space : List ℕ
@@ -19,16 +22,31 @@ lineEnd = 10 ∷ []
 abbrev refusedWord : List ℕ
 refusedWord = 114 ∷ 101 ∷ 102 ∷ 117 ∷ 115 ∷ 101 ∷ 100 ∷ 32 ∷ []
 
-unfoldable pub pairLine : List ℕ → Bounds → List ℕ
-pairLine word pair = ((((word ++ space) ++ signedText (pair .low)) ++ space) ++ signedText (pair .high)) ++ lineEnd
+unfoldable pub refusalLine : ℕ → ℕ → List ℕ
+refusalLine number place = (((refusedWord ++ decimalText number) ++ space) ++ decimalText place) ++ lineEnd
 
-unfoldable pub valueLine : List ℕ → ℕ → List ℕ
-valueLine word value = ((word ++ space) ++ decimalText value) ++ lineEnd
+-- The word and the first value, where an answer of one value ends.
+abbrev pub upToFirst : List ℕ → ℤ → List ℕ
+upToFirst word first = (word ++ space) ++ signedText first
 
-unfoldable pub refusalLine : Refusal → List ℕ
-refusalLine f = (((refusedWord ++ decimalText (f .number)) ++ space) ++ decimalText (placeNumber (f .place))) ++ lineEnd
+abbrev valueLine : List ℕ → ℤ → List ℕ
+valueLine word value = upToFirst word value ++ lineEnd
+
+abbrev pairLine : List ℕ → ℤ → ℤ → List ℕ
+pairLine word low high = ((upToFirst word low ++ space) ++ signedText high) ++ lineEnd
+
+-- Which line it is follows from the count of values: a refusal states none.
+unfoldable pub answerLine : List ℕ → Parts → List ℕ
+answerLine word p =
+    cond (eqb (p .count) 0) (refusalLine (p .number) (p .place))
+    (cond (eqb (p .count) 1) (valueLine word (p .first))
+    (pairLine word (p .first) (p .second)))
+
+-- The line of an answer: of what it states, taken apart.
+abbrev pub lineOf : {Answer : Type 0} → List ℕ → (Answer → Stated) → Answer → List ℕ
+lineOf word stated answer = answerLine word (partsOf (stated answer))
 
 -- What is written in a line, which has room for it.
 pub record Says (line : Line) (text : List ℕ) : Type 0 where
   pub says : written line ≡ text
-  pub room : line .length ≤ 80
+  pub room : line .length ≤ lineRoom

@@ -1,40 +1,28 @@
 // An answer's line, as document 01's 'Cases' has the program `rise` print it: a word and numbers in decimal.
 ghost use Prim.Native.Nat.{_≤_};
 ghost use lib.ListN.{length};
-ghost use Rattle.lines.specs.Lines.{Says, pairLine, valueLine, refusalLine};
-use bounds::Bounds;
-use cable::Refusal;
+ghost use Rattle.lines.specs.Lines.{Says, refusalLine, answerLine};
+use refusals::Parts;
 use text::Line;
 
-// `WORD LOW HIGH`.
-pub fn pair_line(word: &[u8], pair: Bounds) -> Line
+// By the count of values: `refused NUMBER PLACE`, `WORD VALUE` or `WORD LOW HIGH`.
+pub fn answer_line(word: &[u8], parts: Parts) -> Line
     requires { ⌜ length (now word) ≤ 8 ⌝ }
-    ensures { λ r. ⌜ Says r (pairLine (now (word .entry)) pair) ⌝ }
+    ensures { λ r. ⌜ Says r (answerLine (now (word .entry)) parts) ⌝ }
 {
-    let low = Line::empty().with(word).with(b" ").with_signed(pair.low);
-    low.with(b" ").with_signed(pair.high).with(b"\n")
+    if parts.count == 0 {
+        return refusal_line(parts.number, parts.place);
+    }
+    let first = Line::empty().with(word).with(b" ").with_signed(parts.first);
+    if parts.count == 1 {
+        return first.with(b"\n");
+    }
+    first.with(b" ").with_signed(parts.second).with(b"\n")
 }
 
-// `WORD VALUE`.
-pub fn value_line(word: &[u8], value: u32) -> Line
-    requires { ⌜ length (now word) ≤ 8 ⌝ }
-    ensures { λ r. ⌜ Says r (valueLine (now (word .entry)) value) ⌝ }
+fn refusal_line(number: u8, place: u8) -> Line
+    ensures { λ r. ⌜ Says r (refusalLine number place) ⌝ }
 {
-    Line::empty()
-        .with(word)
-        .with(b" ")
-        .with_number(value as u64)
-        .with(b"\n")
-}
-
-// `refused NUMBER PLACE`.
-pub fn refusal_line(refusal: Refusal) -> Line
-    ensures { λ r. ⌜ Says r (refusalLine refusal) ⌝ }
-{
-    let place = refusal.place;
-    let at = cable::place_number(place);
-    let number = Line::empty()
-        .with(b"refused ")
-        .with_number(refusal.number as u64);
-    number.with(b" ").with_number(at as u64).with(b"\n")
+    let refused = Line::empty().with(b"refused ").with_number(number as u64);
+    refused.with(b" ").with_number(place as u64).with(b"\n")
 }

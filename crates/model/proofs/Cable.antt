@@ -1,19 +1,18 @@
--- The width of the share of every cable in range, by whole numbers alone.
+-- How wide the logarithm and the integral of every cable in range are, by whole numbers alone.
 use mathlib.Core.Path.{ap}
 use Prim.Native.Nat.{ℕ, zero, suc, _+_, _*_, _≤_, _<_}
 use native.Mathlib.Nat.{mul-le-mul, lt-of-mul-lt-mul-right}
 use native.Mathlib.Omega.{arith}
 use Rattle.bounds.specs.Pair.{timesP}
-use Rattle.model.specs.Scale.{one, million, betaOne, mostDoublings, exactly}
+use Rattle.model.specs.Scale.{one, mostDoublings}
 use Rattle.model.specs.Logarithm.{powerOfTwo, doublings, logarithm}
 use Rattle.model.specs.Integral.{Stretch, sliceStart}
-use Rattle.model.specs.Share.{beta, surfaceFactor, attainedShare, cableLogarithm, cableIntegral, Ranges}
-use Rattle.model.specs.Width.{Under, Within, innerWidth}
+use Rattle.model.specs.Share.{cableLogarithm, cableIntegral, Ranges}
+use Rattle.model.specs.Width.{Under}
 use Rattle.model.proofs.Logarithm.{power-of-sum, Octave, doublings-in-octave, doublings-at-most-fuel, LogarithmOf, logarithm-by-doublings}
 use Rattle.model.proofs.Slice.{Spread}
 use Rattle.model.proofs.Thetas.{thetas, thetas-under-lines, thetas-at-most-octaves}
 use Rattle.model.proofs.Integral.{integral-spread, integral-under-top, slice-start-inside}
-use Rattle.model.proofs.Share.{beta-within, beta-at-most-one, surface-within, surface-at-most-one, attainment-within-52, attainment-at-most-one, share-of-within, share-of-at-most-million}
 
 above-four-is-third-power : (n : ℕ) → 4 < powerOfTwo n → 3 ≤ n
 unfolding powerOfTwo
@@ -22,7 +21,7 @@ above-four-is-third-power (suc zero) h = absurd (omega arith)
 above-four-is-third-power (suc (suc zero)) h = absurd (omega arith)
 above-four-is-third-power (suc (suc (suc n))) h = omega arith
 
--- ---- The numbers of β's width, one step at a time. Of the cable's logarithm, n is the doublings of its half, low and high its ends; of its
+-- ---- The numbers of the widths, one step at a time. Of the cable's logarithm, n is the doublings of its half, low and high its ends; of its
 -- integral, `least` and `most` are the ends, and x the sum of θ.
 thetas-by-logarithm : (n x high : ℕ) → 3 ≤ n → x ≤ one * (n + n + 2) → 1488522518 * n ≤ high → 100 * x ≤ 193 * high
 thetas-by-logarithm n x high a b c = omega arith
@@ -35,12 +34,6 @@ integral-by-logarithm most least x high a z b c =
 
 logarithm-by-itself : (n low high : ℕ) → 3 ≤ n → high ≤ low + 382 * n + 390 → 1488522136 * n ≤ low → 1000000000 * high ≤ 1000000000 * low + 345 * low
 logarithm-by-itself n low high a b c = omega arith
-
-beta-by-logarithm : (most least low high : ℕ) → 1000000000 * most ≤ 1000000000 * least + 2448 * high → 1000000000 * high ≤ 1000000000 * low + 345 * low →
-    betaOne * most + high + betaOne * high ≤ betaOne * least + betaOne * low + 22 * low
-beta-by-logarithm most least low high a b =
-    let e : high ≤ 2 * low = omega arith in
-    omega arith
 
 module _ {d l s k w t : ℕ} (c : Ranges d l s k w t) where
   abbrev times : ℕ
@@ -72,7 +65,7 @@ module _ {d l s k w t : ℕ} (c : Ranges d l s k w t) where
   unfolding cableLogarithm timesP
   cable-logarithm-most = let b = half-logarithm in let f = doublings-at-most-fuel mostDoublings d (40 * l) in omega (arith, b .high-most, f)
 
-  cable-logarithm-width : 1000000000 * cableLogarithm d l .high ≤ 1000000000 * cableLogarithm d l .low + 345 * cableLogarithm d l .low
+  pub cable-logarithm-width : 1000000000 * cableLogarithm d l .high ≤ 1000000000 * cableLogarithm d l .low + 345 * cableLogarithm d l .low
   unfolding cableLogarithm timesP
   cable-logarithm-width =
       let b = half-logarithm in
@@ -122,7 +115,7 @@ module _ {d l s k w t : ℕ} (c : Ranges d l s k w t) where
   unfolding cableIntegral
   cable-integral-under-logarithm = integral-under-top (5 * d * d) (8000 * l * l) (8 * t * s) (cableLogarithm d l .high)
 
-  cable-integral-width : 1000000000 * cableIntegral d l s t .high ≤ 1000000000 * cableIntegral d l s t .low + 2448 * cableLogarithm d l .high
+  pub cable-integral-width : 1000000000 * cableIntegral d l s t .high ≤ 1000000000 * cableIntegral d l s t .low + 2448 * cableLogarithm d l .high
   unfolding cableLogarithm timesP
   cable-integral-width =
       let n = three-doublings in
@@ -130,22 +123,3 @@ module _ {d l s k w t : ℕ} (c : Ranges d l s k w t) where
       let high = logarithm d (40 * l) .high * 2 in
       let y = thetas-by-logarithm times thetaSum high n theta-sum-by-doublings (omega (arith, b .high-least)) in
       integral-by-logarithm _ _ thetaSum high (cable-integral-spread .width) (cable-integral-under-logarithm .low) y (omega (arith, n, b .high-least))
-
-  -- ---- β, and the share
-  pub beta-within-22 : Within 22 (beta (cableIntegral d l s t) (cableLogarithm d l))
-  beta-within-22 =
-      beta-within 22 _ _ cable-integral-ordered cable-logarithm-ordered cable-logarithm-above-zero (cable-integral-under-logarithm .low)
-      (beta-by-logarithm _ _ (cableLogarithm d l .low) (cableLogarithm d l .high) cable-integral-width cable-logarithm-width)
-
-  surface-within-2935 : Within 2935 (surfaceFactor (exactly k) (beta (cableIntegral d l s t) (cableLogarithm d l)))
-  surface-within-2935 = surface-within 0 22 2934 (exactly k) _ (c .k-most) (beta-at-most-one _ _ .high) (omega arith) beta-within-22 (omega arith)
-
-  -- for every accepted cable and time
-  pub share-within-inner-width : (fast slow : ℕ) → Within innerWidth (attainedShare d l s k w fast slow t)
-  unfolding attainedShare
-  share-within-inner-width fast slow =
-      share-of-within _ _ surface-within-2935 (attainment-within-52 w fast slow t (c .w-most)) (surface-at-most-one _ _ .low) (attainment-at-most-one w fast slow t .low)
-
-pub share-at-most-million : (d l s k w fast slow t : ℕ) → Under million (attainedShare d l s k w fast slow t)
-unfolding attainedShare
-share-at-most-million d l s k w fast slow t = share-of-at-most-million _ _

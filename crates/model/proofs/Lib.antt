@@ -8,4 +8,5 @@ pub mod Thetas
 pub mod Integral
 pub mod Share
 pub mod Cable
+pub mod Group
 pub mod Enclosure

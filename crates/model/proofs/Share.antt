@@ -89,7 +89,7 @@ pub share-of-at-most-million : (x a : Pair) → Under million (shareOf x a)
 unfolding shareOf atMostP
 share-of-at-most-million x a = omega arith
 
-pub share-of-within : (x a : Pair) → Within 2935 x → Within 52 a → x .low ≤ surfaceOne → a .low ≤ one → Within innerWidth (shareOf x a)
+pub share-of-within : (x a : Pair) → Within 3335 x → Within 52 a → x .low ≤ surfaceOne → a .low ≤ one → Within innerWidth (shareOf x a)
 unfolding shareOf atMostP scaledP
 share-of-within x a v w h k =
     let m = mul-le-mul (v .order) (w .order) in

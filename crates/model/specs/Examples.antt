@@ -2,6 +2,7 @@
 -- share they do.
 use mathlib.Core.Path.{_≡_, refl}
 use mathlib.Core.List.{List, [], _∷_}
+use Rattle.exact.specs.Share.{Source}
 use Rattle.bounds.specs.Pair.{Pair, addP, lessP, scaledP, quotientP, timesP, dividedP, atMostP}
 use Rattle.numbers.specs.Rounding.{ceilN}
 use Rattle.model.specs.Scale.{one, half}
@@ -9,7 +10,7 @@ use Rattle.model.specs.Exponential.{expTerm, expSum, fractionExpPair, de
 use Rattle.model.specs.Series.{seriesTerm, seriesSum, seriesPair}
 use Rattle.model.specs.Logarithm.{powerOfTwo, logarithmSlice, doublings, logarithmAfter, logarithm}
 use Rattle.model.specs.Integral.{slicePair, nextEnd, walk, sliceStart, farPair, heatingIntegral}
-use Rattle.model.specs.Share.{beta, surfaceFactor, attainmentOf, attainment, shareOf, cableLogarithm, cableIntegral, attainedShare}
+use Rattle.model.specs.Share.{beta, surfaceFactor, attainmentOf, attainment, shareOf, cableLogarithm, cableIntegral, sourceLogarithm, sourceIntegral, withLogarithms, withIntegrals, groupLogarithm, groupIntegral, attainedShare}
 
 -- e^(-0.36), e^0 and e^(-17)
 pub exponentials : _≡_ {A = List Pair}
@@ -58,15 +59,46 @@ attainments = refl
 
 -- shares after an hour; with k 0 and w 1,000,000 after two days; with the most slices; with none
 pub shares : _≡_ {A = List Pair}
-    (attainedShare 500 1000 500 600000 500000 1000 100 3600 ∷
-    attainedShare 500 1000 500 0 1000000 1000 100 172800 ∷
-    attainedShare 100 5000 2000 1000000 0 100000 1 172800 ∷
-    attainedShare 1500 300 100 1000000 1000000 100000 1 60 ∷
+    (attainedShare 500 1000 500 600000 500000 1000 100 3600 [] ∷
+    attainedShare 500 1000 500 0 1000000 1000 100 172800 [] ∷
+    attainedShare 100 5000 2000 1000000 0 100000 1 172800 [] ∷
+    attainedShare 1500 300 100 1000000 1000000 100000 1 60 [] ∷
     [])
     (record { low = 340185; high = 340186 } ∷
     record { low = 999999; high = 1000000 } ∷
     record { low = 107974; high = 107976 } ∷
     record { low = 0; high = 1 } ∷
     [])
-unfolding addP lessP timesP dividedP ceilN atMostP expTerm expSum quotientP fractionExpPair scaledP decayed expPair seriesTerm seriesSum seriesPair powerOfTwo logarithmSlice doublings logarithmAfter logarithm slicePair nextEnd walk sliceStart farPair heatingIntegral beta surfaceFactor attainmentOf attainment shareOf cableLogarithm cableIntegral attainedShare
+unfolding addP lessP timesP dividedP ceilN atMostP expTerm expSum quotientP fractionExpPair scaledP decayed expPair seriesTerm seriesSum seriesPair powerOfTwo logarithmSlice doublings logarithmAfter logarithm slicePair nextEnd walk sliceStart farPair heatingIntegral beta surfaceFactor attainmentOf attainment shareOf cableLogarithm cableIntegral withLogarithms withIntegrals attainedShare
 shares = refl
+
+-- of a cable 1,000 mm deep: two neighbours as deep, 200 mm to either side; and one such with one 300 mm to the side and 500 mm deeper
+abbrev flat : List Source
+flat = record { near = 40000; image = 4040000 } ∷ record { near = 40000; image = 4040000 } ∷ []
+
+abbrev unlike : List Source
+unlike = record { near = 40000; image = 4040000 } ∷ record { near = 340000; image = 6340000 } ∷ []
+
+-- β's divisor, and its numerator after two days
+pub group-sums : _≡_ {A = List Pair}
+    (groupLogarithm 500 1000 unlike ∷
+    groupIntegral 500 1000 500 172800 unlike ∷
+    [])
+    (record { low = 17507211386; high = 17507215755 } ∷
+    record { low = 8221620868; high = 8221623871 } ∷
+    [])
+unfolding addP timesP atMostP expTerm expSum quotientP fractionExpPair scaledP decayed expPair seriesTerm seriesSum seriesPair powerOfTwo logarithmSlice doublings logarithmAfter logarithm slicePair nextEnd walk sliceStart farPair heatingIntegral cableLogarithm cableIntegral sourceLogarithm sourceIntegral withLogarithms withIntegrals
+group-sums = refl
+
+-- shares with neighbours after an hour, and after two days
+pub group-shares : _≡_ {A = List Pair}
+    (attainedShare 500 1000 500 600000 500000 1000 100 3600 flat ∷
+    attainedShare 500 1000 500 600000 500000 1000 100 172800 flat ∷
+    attainedShare 500 1000 500 600000 500000 1000 100 172800 unlike ∷
+    [])
+    (record { low = 296514; high = 296516 } ∷
+    record { low = 704203; high = 704204 } ∷
+    record { low = 681767; high = 681769 } ∷
+    [])
+unfolding addP lessP timesP dividedP ceilN atMostP expTerm expSum quotientP fractionExpPair scaledP decayed expPair seriesTerm seriesSum seriesPair powerOfTwo logarithmSlice doublings logarithmAfter logarithm slicePair nextEnd walk sliceStart farPair heatingIntegral beta surfaceFactor attainmentOf attainment shareOf cableLogarithm cableIntegral sourceLogarithm sourceIntegral withLogarithms withIntegrals attainedShare
+group-shares = refl

@@ -1,5 +1,8 @@
--- The attained share in fixed point, of a cable's fields d l s k w fast slow and t seconds. Document 01, 'The attained share'.
+-- The attained share in fixed point, of a cable's fields d l s k w fast slow, t seconds and its neighbours. Document 01, 'The attained share', and
+-- document 02, note 2, where a comment quotes it.
 use Prim.Native.Nat.{ℕ, _*_, _-_, _≤_}
+use mathlib.Core.List.{List, [], _∷_}
+use Rattle.exact.specs.Share.{Source}
 use Rattle.bounds.specs.Pair.{Pair, addP, scaledP, quotientP, timesP, dividedP, atMostP, lessP}
 use Rattle.model.specs.Scale.{million, betaOne, surfaceOne, betaToSurface, surfaceToShare, attainmentOne, exactly}
 use Rattle.model.specs.Exponential.{expPair}
@@ -34,9 +37,35 @@ cableLogarithm d l = timesP (logarithm d (40 * l)) 2
 unfoldable pub cableIntegral : ℕ → ℕ → ℕ → ℕ → Pair
 cableIntegral d l s t = heatingIntegral (5 * d * d) (8000 * l * l) (8 * t * s) (cableLogarithm d l .high)
 
-unfoldable pub attainedShare : ℕ → ℕ → ℕ → ℕ → ℕ → ℕ → ℕ → ℕ → Pair
-attainedShare d l s k w fast slow t =
-    shareOf (surfaceFactor (exactly k) (beta (cableIntegral d l s t) (cableLogarithm d l))) (attainment w fast slow t)
+-- "ln(m²/c²)" of a neighbour
+unfoldable pub sourceLogarithm : Source → Pair
+sourceLogarithm x = logarithm (x .near) (x .image)
+
+-- "the integral of e^(−u)/u from c²/(4tδ) to m²/(4tδ)": with c in mm, c²/(4tδ) is 2,000·c² over 8·t·s, the diffusion
+unfoldable pub sourceIntegral : ℕ → Source → Pair
+sourceIntegral diffusion x = heatingIntegral (2000 * x .near) (2000 * x .image) diffusion (sourceLogarithm x .high)
+
+-- a sum "plus each ln(m²/c²)"
+unfoldable pub withLogarithms : Pair → List Source → Pair
+withLogarithms sum [] = sum
+withLogarithms sum (x ∷ xs) = withLogarithms (addP sum (sourceLogarithm x)) xs
+
+-- a sum "plus, for each neighbour, the integral"
+unfoldable pub withIntegrals : ℕ → Pair → List Source → Pair
+withIntegrals diffusion sum [] = sum
+withIntegrals diffusion sum (x ∷ xs) = withIntegrals diffusion (addP sum (sourceIntegral diffusion x)) xs
+
+-- "β then has as numerator J plus, for each neighbour, the integral [..], and as divisor ln(1,600·l²/d²) plus each ln(m²/c²)": the divisor, and the
+-- numerator
+abbrev pub groupLogarithm : ℕ → ℕ → List Source → Pair
+groupLogarithm d l xs = withLogarithms (cableLogarithm d l) xs
+
+abbrev pub groupIntegral : ℕ → ℕ → ℕ → ℕ → List Source → Pair
+groupIntegral d l s t xs = withIntegrals (8 * t * s) (cableIntegral d l s t) xs
+
+unfoldable pub attainedShare : ℕ → ℕ → ℕ → ℕ → ℕ → ℕ → ℕ → ℕ → List Source → Pair
+attainedShare d l s k w fast slow t xs =
+    shareOf (surfaceFactor (exactly k) (beta (groupIntegral d l s t xs) (groupLogarithm d l xs))) (attainment w fast slow t)
 
 -- The ranges of document 01, 'The cable', of the fields that the width depends on; t is 60 times 1 to 2,880 minutes.
 pub record Ranges (d l s k w t : ℕ) : Type 0 where

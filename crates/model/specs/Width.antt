@@ -12,6 +12,7 @@ pub record Within (most : ℕ) (b : Pair) : Type 0 where
   pub order : b .low ≤ b .high
   pub width : b .high ≤ b .low + most
 
--- how far apart the ends of a share are at most, in millionths, by the fixed point's own reckoning
+-- how far apart the ends of a share are at most, in millionths, by the fixed point's own reckoning: "The share keeps its 50 millionths for any
+-- neighbours, proved once over their list" (document 02, note 2)
 abbrev pub innerWidth : ℕ
-innerWidth = 4
+innerWidth = 5

@@ -4,7 +4,7 @@ use mathlib.Core.List.{[], _∷_}
 use lib.IntN.{pos}
 use Rattle.text.specs.Reading.{sameBytes}
 use Rattle.text.specs.Writing.{leading, decimalText}
-use Rattle.lines.specs.Lines.{pairLine, valueLine}
+use Rattle.lines.specs.Lines.{answerLine}
 use Rattle.share.specs.declared.ShareAnswer.the-variants as S
 use Rattle.cycle.specs.declared.FactorAnswer.the-variants as F
 use Rattle.emergency.specs.declared.CurrentAnswer.the-variants as C
@@ -93,15 +93,15 @@ names-nothing = refl
 a-share :
     shareLine (S.Pair (record { low = pos 340185; high = pos 340186 }))
     ≡ 115 ∷ 104 ∷ 97 ∷ 114 ∷ 101 ∷ 32 ∷ 51 ∷ 52 ∷ 48 ∷ 49 ∷ 56 ∷ 53 ∷ 32 ∷ 51 ∷ 52 ∷ 48 ∷ 49 ∷ 56 ∷ 54 ∷ 10 ∷ []
-unfolding pairLine decimalText leading
+unfolding answerLine decimalText leading
 a-share = refl
 
 -- "factor 1125"
 a-factor : factorLine (F.Factor 1125) ≡ 102 ∷ 97 ∷ 99 ∷ 116 ∷ 111 ∷ 114 ∷ 32 ∷ 49 ∷ 49 ∷ 50 ∷ 53 ∷ 10 ∷ []
-unfolding valueLine decimalText leading
+unfolding answerLine decimalText leading
 a-factor = refl
 
 -- "current 500"
 a-current : currentLine (C.Current 500) ≡ 99 ∷ 117 ∷ 114 ∷ 114 ∷ 101 ∷ 110 ∷ 116 ∷ 32 ∷ 53 ∷ 48 ∷ 48 ∷ 10 ∷ []
-unfolding valueLine decimalText leading
+unfolding answerLine decimalText leading
 a-current = refl

@@ -3,29 +3,27 @@ ghost use mathlib.Core.Path.{_≡_};
 ghost use Prim.Native.Nat.{min};
 ghost use lib.ListN.{getD};
 ghost use Rattle.cable.specs.Checks.{cableFrom};
+ghost use Rattle.cable.specs.Group.{givenCable};
 ghost use Rattle.share.specs.Answer.{ShareSaid};
 ghost use Rattle.emergency.specs.Answer.{CurrentSaid};
-ghost use Rattle.lines.specs.Lines.{Says};
 ghost use Rattle.rating.specs.Hours.{HoursFrom, mostHour};
 ghost use Rattle.rating.specs.Lines.{shareLine, factorLine, currentLine, FactorOf, Answers};
 use cable::Cable;
-use cycle::FactorAnswer;
-use emergency::CurrentAnswer;
-use share::ShareAnswer;
 use text::Line;
 
 const CABLE_FIELDS: usize = 8;
 
 const DAY_HOURS: usize = 24;
 
+// In A: the largest load that 16 bits hold.
 const MOST_HOUR: u32 = 65535;
 
 // The share of a cable after the minutes that stand behind it.
 pub fn share_of(values: [u32; 32]) -> Line
-    ensures { λ r. ⌜ Answers (ShareSaid (cableFrom values) (getD values 8 0)) shareLine r ⌝ }
+    ensures { λ r. ⌜ Answers (ShareSaid (givenCable (cableFrom values)) (getD values 8 0)) shareLine r ⌝ }
 {
     let answer = share::share(cable_of(values), values[8]);
-    share_line(answer)
+    lines::answer_line(b"share", share::parts(answer))
 }
 
 // The factor of a cable and the 24 hours behind it.
@@ -33,45 +31,15 @@ pub fn factor_of(values: [u32; 32]) -> Line
     ensures { λ r. ⌜ Answers (FactorOf values) factorLine r ⌝ }
 {
     let answer = cycle::factor(cable_of(values), hours_from(values));
-    factor_line(answer)
+    lines::answer_line(b"factor", cycle::parts(answer))
 }
 
 // The current of a cable and the preload, limit and minutes behind it.
 pub fn current_of(values: [u32; 32]) -> Line
-    ensures { λ r. ⌜ Answers (CurrentSaid (cableFrom values) (getD values 8 0) (getD values 9 0) (getD values 10 0)) currentLine r ⌝ }
+    ensures { λ r. ⌜ Answers (CurrentSaid (givenCable (cableFrom values)) (getD values 8 0) (getD values 9 0) (getD values 10 0)) currentLine r ⌝ }
 {
     let answer = emergency::current(cable_of(values), values[8], values[9], values[10]);
-    current_line(answer)
-}
-
-// `share LOW HIGH` or `refused NUMBER PLACE`.
-fn share_line(answer: ShareAnswer) -> Line
-    ensures { λ r. ⌜ Says r (shareLine answer) ⌝ }
-{
-    match answer {
-        ShareAnswer::Pair(pair) => lines::pair_line(b"share", pair),
-        ShareAnswer::Refused(refusal) => lines::refusal_line(refusal),
-    }
-}
-
-// `factor M` or `refused NUMBER PLACE`.
-fn factor_line(answer: FactorAnswer) -> Line
-    ensures { λ r. ⌜ Says r (factorLine answer) ⌝ }
-{
-    match answer {
-        FactorAnswer::Factor(m) => lines::value_line(b"factor", m),
-        FactorAnswer::Refused(refusal) => lines::refusal_line(refusal),
-    }
-}
-
-// `current I` or `refused NUMBER PLACE`.
-fn current_line(answer: CurrentAnswer) -> Line
-    ensures { λ r. ⌜ Says r (currentLine answer) ⌝ }
-{
-    match answer {
-        CurrentAnswer::Current(i) => lines::value_line(b"current", i),
-        CurrentAnswer::Refused(refusal) => lines::refusal_line(refusal),
-    }
+    lines::answer_line(b"current", emergency::parts(answer))
 }
 
 // The cable of the first eight numbers.

@@ -8,6 +8,7 @@ mod words;
 
 use command::Command;
 use report::Outcome;
+use report::Walk;
 use words::Fault;
 
 // How many numbers each calculation takes: a cable's eight fields, and what is asked of it.
@@ -116,7 +117,7 @@ fn rise_of(path: &[u8]) {
         say::unread(path);
         return;
     }
-    let Outcome::Answer(answer) = report::rise_from(descriptor) else {
+    let Outcome::Answer(answer) = report::rise_from(descriptor, Walk::Plain) else {
         say::unread(path);
         return;
     };

@@ -1,6 +1,8 @@
 // What a program reads and prints: a sheet from a descriptor, and an answer as one line.
 ghost use Prim.Native.Nat.{_≤_};
+ghost use Rattle.text.specs.Writing.{lineRoom};
 ghost use Rattle.lines.specs.Lines.{Says};
+ghost use Rattle.history.specs.Answer.{RiseSaid};
 ghost use Rattle.report.specs.Reading.{Within, FromBytes};
 ghost use Rattle.report.specs.Lines.{riseLine};
 use history::RiseAnswer;
@@ -38,9 +40,15 @@ pub enum Outcome {
     Unread,
 }
 
+// By which loop the chain of a sheet is walked. The answer is the same.
+pub enum Walk {
+    Plain,
+    ByReader,
+}
+
 // The rise of the sheet behind a descriptor. The buffer is longer than the longest sheet, so that a longer input is refused for its length and
 // not cut.
-pub fn rise_from(descriptor: i32) -> Outcome
+pub fn rise_from(descriptor: i32, walk: Walk) -> Outcome
     ensures { λ r. ⌜ FromBytes r ⌝ }
 {
     let mut buffer = [0u8; 1024];
@@ -48,17 +56,23 @@ pub fn rise_from(descriptor: i32) -> Outcome
     let Input::Length(length) = input else {
         return Outcome::Unread;
     };
-    Outcome::Answer(history::rise(&buffer[..length]))
+    Outcome::Answer(walked(&buffer[..length], walk))
+}
+
+fn walked(sheet: &[u8], walk: Walk) -> RiseAnswer
+    ensures { λ r. ⌜ RiseSaid (now (sheet .entry)) r ⌝ }
+{
+    match walk {
+        Walk::Plain => history::rise(sheet),
+        Walk::ByReader => history::rise_by_reader(sheet),
+    }
 }
 
 // `rise LOW HIGH` or `refused NUMBER PLACE`, and the line's end.
 pub fn rise_line(answer: RiseAnswer) -> Line
     ensures { λ r. ⌜ Says r (riseLine answer) ⌝ }
 {
-    match answer {
-        RiseAnswer::Rise(pair) => lines::pair_line(b"rise", pair),
-        RiseAnswer::Refused(refusal) => lines::refusal_line(refusal),
-    }
+    lines::answer_line(b"rise", history::parts(answer))
 }
 
 pub fn print_rise(answer: RiseAnswer, lost: &[u8]) {
@@ -67,7 +81,7 @@ pub fn print_rise(answer: RiseAnswer, lost: &[u8]) {
 
 // Writes the line as it is, with no line end of its own.
 pub fn print(line: Line, lost: &[u8])
-    requires { ⌜ line .length ≤ 80 ⌝ }
+    requires { ⌜ line .length ≤ lineRoom ⌝ }
 {
     let length = line.length;
     let bytes = line.bytes;

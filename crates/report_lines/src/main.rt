@@ -1,8 +1,8 @@
 // Prints an answer of each kind, for the line that document 01 asks for: "a negative number with a leading minus sign", and 0 for no place.
 use bounds::Bounds;
-use cable::Place;
-use cable::Refusal;
 use history::RiseAnswer;
+use refusals::Place;
+use refusals::Refusal;
 
 fn main() {
     print(562500, 562500);

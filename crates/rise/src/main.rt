@@ -2,13 +2,14 @@
 use libc::STDERR_FILENO;
 use libc::STDIN_FILENO;
 use report::Outcome;
+use report::Walk;
 
 fn main() {
     if 1 < os::arg_count() {
         io::write_all(STDERR_FILENO, b"usage: no words wanted: rise < SHEET\n");
         return;
     }
-    let Outcome::Answer(answer) = report::rise_from(STDIN_FILENO) else {
+    let Outcome::Answer(answer) = report::rise_from(STDIN_FILENO, Walk::Plain) else {
         os::fail(b"rise: standard input cannot be read");
         return;
     };

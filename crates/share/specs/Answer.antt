@@ -1,18 +1,17 @@
 -- Document 01, 'The attained share' and 'When the desk is told no': the answer of a share, in the order 2, 3, 9.
 use mathlib.Core.Path.{_≡_}
-use mathlib.Core.Bool.{Bool, true, false, cond}
+use mathlib.Core.Bool.{cond}
 use mathlib.Core.List.{[], _∷_}
 use Prim.Native.Nat.{ℕ}
 use lib.IntN.{ℤ}
-use Rattle.cable.specs.Checks.{outside, _to_, checked}
-use Rattle.cable.specs.Stated.{Stated, statedValues, statedRefusal}
-use Rattle.cable.specs.declared.Cable.{Cable}
-use Rattle.cable.specs.declared.Refusal.{Refusal}
-use Rattle.cable.specs.declared.Place.the-variants.{None}
-use Rattle.cable.specs.declared.CableCheck.{CableCheck}
-use Rattle.cable.specs.declared.CableCheck.the-variants as C
+use Rattle.refusals.specs.Ranges.{outside, _to_}
+use Rattle.refusals.specs.Stated.{Stated, statedValues, statedRefusal}
+use Rattle.refusals.specs.declared.Refusal.{Refusal}
+use Rattle.refusals.specs.declared.Place.the-variants.{None}
+use Rattle.cable.specs.Group.{Group, Given, accepted, refused}
+use Rattle.distance.specs.Promised.{Promised}
 use Rattle.share.specs.Pair.{sharePair}
-use Rattle.share.specs.Promises.{shareWidth, exactShare, Promised}
+use Rattle.share.specs.Promises.{widthOf, exactShare}
 use Rattle.share.specs.declared.ShareAnswer.{ShareAnswer}
 use Rattle.share.specs.declared.ShareAnswer.the-variants.{Pair, Refused}
 
@@ -23,27 +22,21 @@ mostMinutes = 2880
 abbrev pub refused9 : Refusal
 refused9 = record { number = 9; place = None }
 
--- what follows where checks 2 and 3 pass; their refusal passes out unchanged
-abbrev pub afterChecks : CableCheck → ShareAnswer → ShareAnswer
-afterChecks (C.Accepted c) answer = answer
-afterChecks (C.Refused f) answer = Refused f
+-- of an accepted group
+unfoldable pub shareFrom : Group → ℕ → ShareAnswer
+shareFrom g minutes = cond (outside (1 to mostMinutes) minutes) (Refused refused9) (Pair (sharePair g minutes))
 
-unfoldable pub shareAnswer : Cable → ℕ → ShareAnswer
-shareAnswer cable minutes =
-    afterChecks (checked cable)
-    (cond (outside (1 to mostMinutes) minutes) (Refused refused9)
-    (Pair (sharePair cable minutes)))
-
-abbrev pub refuses : ShareAnswer → Bool
-refuses (Pair b) = false
-refuses (Refused f) = true
+-- the refusal of what was handed in comes first
+abbrev pub shareAnswer : Given → ℕ → ShareAnswer
+shareAnswer (accepted g) minutes = shareFrom g minutes
+shareAnswer (refused f) minutes = Refused f
 
 -- the paper's number, place and values of each answer
 abbrev pub statedShare : ShareAnswer → Stated
 statedShare (Pair b) = statedValues (b .low ∷ b .high ∷ [])
 statedShare (Refused f) = statedRefusal f
 
-pub record ShareSaid (cable : Cable) (minutes : ℕ) (r : ShareAnswer) : Type 0 where
-  pub answer : r ≡ shareAnswer cable minutes
+pub record ShareSaid (given : Given) (minutes : ℕ) (r : ShareAnswer) : Type 0 where
+  pub answer : r ≡ shareAnswer given minutes
   -- 'What the distances say', of every pair that is stated
-  pub distance : (low high : ℤ) → statedShare r ≡ statedValues (low ∷ high ∷ []) → Promised shareWidth (exactShare cable minutes) (record { low = low; high = high })
+  pub distance : (g : Group) → given ≡ accepted g → (low high : ℤ) → statedShare r ≡ statedValues (low ∷ high ∷ []) → Promised (widthOf g) (exactShare g minutes) (record { low = low; high = high })

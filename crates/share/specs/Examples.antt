@@ -5,12 +5,14 @@ use Prim.Native.Nat.{ℕ}
 use lib.IntN.{ℤ, pos}
 use Rattle.exact.specs.Value.{Value}
 use Rattle.cable.specs.Checks.{checked, outsideField}
-use Rattle.cable.specs.Stated.{no-place}
+use Rattle.cable.specs.Group.{alone, givenCable}
+use Rattle.distance.specs.Promised.{Promised}
+use Rattle.refusals.specs.Stated.{no-place}
 use Rattle.cable.specs.declared.Cable.{Cable}
-use Rattle.cable.specs.declared.Place.the-variants.{None, Field}
+use Rattle.refusals.specs.declared.Place.the-variants.{None, Field}
 use Rattle.share.specs.Pair.{sharePair}
-use Rattle.share.specs.Promises.{shareWidth, Promised}
-use Rattle.share.specs.Answer.{shareAnswer, statedShare}
+use Rattle.share.specs.Promises.{shareWidth}
+use Rattle.share.specs.Answer.{shareFrom, shareAnswer, statedShare}
 use Rattle.share.specs.declared.ShareAnswer.the-variants.{Pair, Refused}
 
 -- cable A of 'Cases', with another diameter and another slow rate
@@ -28,25 +30,25 @@ cableA diameter slow =
     }
 
 -- the ends of the minutes' range are answered with the pair
-one-minute : shareAnswer (cableA 500 100) 1 ≡ Pair (sharePair (cableA 500 100) 1)
-unfolding shareAnswer checked outsideField
+one-minute : shareAnswer (givenCable (cableA 500 100)) 1 ≡ Pair (sharePair (alone (cableA 500 100)) 1)
+unfolding givenCable shareFrom checked outsideField
 one-minute = refl
 
-two-days : shareAnswer (cableA 500 100) 2880 ≡ Pair (sharePair (cableA 500 100) 2880)
-unfolding shareAnswer checked outsideField
+two-days : shareAnswer (givenCable (cableA 500 100)) 2880 ≡ Pair (sharePair (alone (cableA 500 100)) 2880)
+unfolding givenCable shareFrom checked outsideField
 two-days = refl
 
-no-minutes : shareAnswer (cableA 500 100) 0 ≡ Refused (record { number = 9; place = None })
-unfolding shareAnswer checked outsideField
+no-minutes : shareAnswer (givenCable (cableA 500 100)) 0 ≡ Refused (record { number = 9; place = None })
+unfolding givenCable shareFrom checked outsideField
 no-minutes = refl
 
 -- with two faults the first in the order is given
-diameter-before-rates : shareAnswer (cableA 99 1001) 60 ≡ Refused (record { number = 2; place = Field 1 })
-unfolding shareAnswer checked outsideField
+diameter-before-rates : shareAnswer (givenCable (cableA 99 1001)) 60 ≡ Refused (record { number = 2; place = Field 1 })
+unfolding givenCable shareFrom checked outsideField
 diameter-before-rates = refl
 
-rates-before-minutes : shareAnswer (cableA 500 1001) 2881 ≡ Refused (record { number = 3; place = None })
-unfolding shareAnswer checked outsideField
+rates-before-minutes : shareAnswer (givenCable (cableA 500 1001)) 2881 ≡ Refused (record { number = 3; place = None })
+unfolding givenCable shareFrom checked outsideField
 rates-before-minutes = refl
 
 -- ---- the width
@@ -61,6 +63,6 @@ fifty-one-apart exact p = p .narrow .le
 stated-low-first : (low high : ℤ) → statedShare (Pair (record { low = low; high = high })) ≡ record { number = 0; kind = no-place; place = 0; values = low ∷ high ∷ [] }
 stated-low-first low high = refl
 
-stated-9 : statedShare (shareAnswer (cableA 500 100) 2881) ≡ record { number = 9; kind = no-place; place = 0; values = [] }
-unfolding shareAnswer checked outsideField
+stated-9 : statedShare (shareAnswer (givenCable (cableA 500 100)) 2881) ≡ record { number = 9; kind = no-place; place = 0; values = [] }
+unfolding givenCable shareFrom checked outsideField
 stated-9 = refl

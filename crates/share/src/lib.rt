@@ -1,16 +1,17 @@
 // The attained share of a cable after some minutes: document 01, 'The attained share'.
 ghost use mathlib.Core.Path.{_≡_};
-ghost use lib.Dec.{T};
 ghost use Rattle.exact.specs.Share.{Accepted};
-ghost use Rattle.cable.specs.InRange.{numbersOf};
-ghost use Rattle.share.specs.Pair.{pairInUse};
-ghost use Rattle.share.specs.Answer.{ShareSaid, refuses};
-ghost use Rattle.share.specs.declared.ShareAnswer.the-variants.{Refused};
+ghost use Rattle.refusals.specs.Apart.{partsOf};
+ghost use Rattle.cable.specs.Group.{only, givenCable};
+ghost use Rattle.cable.specs.InRange.{numbersIn, Acceptable};
+ghost use Rattle.share.specs.Pair.{sharePair};
+ghost use Rattle.share.specs.Answer.{shareFrom, statedShare, ShareSaid};
 use bounds::Bounds;
 use cable::Cable;
 use cable::CableCheck;
-use cable::Place;
-use cable::Refusal;
+use refusals::Parts;
+use refusals::Place;
+use refusals::Refusal;
 
 // The pair of low and high, in millionths, or the first refusal in the order 2, 3, 9.
 pub enum ShareAnswer {
@@ -18,44 +19,48 @@ pub enum ShareAnswer {
     Refused(Refusal),
 }
 
+// Two days.
 const MOST_MINUTES: u32 = 2880;
 
 // The share after `minutes`. The pair is the same for equal inputs, encloses the exact share and is at most 50 millionths wide.
 pub fn share(cable: Cable, minutes: u32) -> ShareAnswer
-    ensures { λ r. ⌜ ShareSaid cable minutes r ⌝ }
+    ensures { λ r. ⌜ ShareSaid (givenCable cable) minutes r ⌝ }
 {
-    let checked = cable::check_cable(cable);
-    let CableCheck::Accepted(accepted) = checked else {
-        return ShareAnswer::Refused(cable::refusal_of(checked));
-    };
-    if cable::outside(minutes, 1, MOST_MINUTES) {
+    let checked = cable::given(cable);
+    match checked {
+        CableCheck::Accepted(used) => share_of(used, minutes),
+        CableCheck::Refused(refusal) => ShareAnswer::Refused(refusal),
+    }
+}
+
+// The share of an accepted cable in use: refusal 9, or the pair.
+pub fn share_of(used: Cable, minutes: u32) -> ShareAnswer
+    requires { ⌜ Acceptable (only used) ⌝ }
+    ensures { λ r. ⌜ r ≡ shareFrom (only used) minutes ⌝ }
+{
+    if refusals::outside(minutes, 1, MOST_MINUTES) {
         return ShareAnswer::Refused(Refusal {
             number: 9,
             place: Place::None,
         });
     }
-    let used = cable::in_use(accepted, cable::DEFAULT_DIFFUSIVITY);
     ShareAnswer::Pair(pair_of(used, minutes))
 }
 
-// The refusal of an answer that refuses; the other arm is never taken.
-pub fn refusal_of(answer: ShareAnswer) -> Refusal
-    requires { ⌜ T (refuses answer) ⌝ }
-    ensures { λ r. ⌜ answer ≡ Refused r ⌝ }
+// What an answer states.
+pub fn parts(answer: ShareAnswer) -> Parts
+    ensures { λ r. ⌜ r ≡ partsOf (statedShare answer) ⌝ }
 {
     match answer {
-        ShareAnswer::Refused(refusal) => refusal,
-        ShareAnswer::Pair(_) => Refusal {
-            number: 12,
-            place: Place::Input(1),
-        },
+        ShareAnswer::Pair(pair) => refusals::of_pair(pair),
+        ShareAnswer::Refused(refusal) => refusals::of_refusal(refusal),
     }
 }
 
-// The pair of an accepted cable whose diffusivity is the one in use.
+// The pair of an accepted cable in use and an accepted minute count.
 fn pair_of(used: Cable, minutes: u32) -> Bounds
-    requires { ⌜ Accepted (numbersOf used) minutes ⌝ }
-    ensures { λ r. ⌜ r ≡ pairInUse used minutes ⌝ }
+    requires { ⌜ Accepted (numbersIn (only used)) minutes ⌝ }
+    ensures { λ r. ⌜ r ≡ sharePair (only used) minutes ⌝ }
 {
     attained::attained_share(
         used.diameter as u64,

@@ -6,7 +6,7 @@ use Prim.Native.Nat.{ℕ, zero, suc, _<_}
 use native.Mathlib.Omega.{arith}
 use borrow.Author.Tests.{eq-eqb, ne-eqb}
 use lib.Dec.{eqb}
-use Rattle.cable.specs.declared.Refusal.{Refusal}
+use Rattle.refusals.specs.declared.Refusal.{Refusal}
 use Rattle.sheet.specs.Records.{recordAt, checkedRecord}
 use Rattle.sheet.specs.Chain.{Chain, steps, refused, stepOf, withStep, afterRecord, chainFrom}
 use Rattle.sheet.specs.declared.LoadRecord.{LoadRecord}

@@ -9,8 +9,8 @@ use lib.Dec.{ltb}
 use lib.ListN.{length}
 use Rattle.cable.specs.Checks.{checked}
 use Rattle.cable.specs.declared.Cable.{Cable}
-use Rattle.cable.specs.declared.Place.the-variants.{None}
-use Rattle.cable.specs.declared.Refusal.{Refusal}
+use Rattle.refusals.specs.declared.Place.the-variants.{None}
+use Rattle.refusals.specs.declared.Refusal.{Refusal}
 use Rattle.cable.specs.declared.CableCheck.{CableCheck}
 use Rattle.cable.specs.declared.CableCheck.the-variants as C
 use Rattle.cable.proofs.Acceptance.{accepted-is}

@@ -7,8 +7,8 @@ use native.Mathlib.Omega.{arith}
 use borrow.Author.Tests.{lt-ltb, le-ltb, le-leb, lt-leb, eq-eqb, ne-eqb, ltb-false, leb-false}
 use lib.Dec.{leb, ltb}
 use lib.ListN.{length}
-use Rattle.cable.specs.Checks.{outside, _to_}
-use Rattle.cable.specs.declared.Refusal.{Refusal}
+use Rattle.refusals.specs.Ranges.{outside, _to_}
+use Rattle.refusals.specs.declared.Refusal.{Refusal}
 use Rattle.sheet.specs.Layout.{recordCount, wrongLength}
 use Rattle.sheet.specs.Header.{mostAmperes}
 use Rattle.sheet.specs.Records.{leastMinutes, mostMinutes, origin, recordOf, recordAt, refusedAt, checkedRecord}

@@ -3,7 +3,7 @@ use mathlib.Core.Bool.{cond}
 use mathlib.Core.List.{List, [], _∷_}
 use Prim.Native.Nat.{ℕ, zero, suc}
 use lib.Dec.{eqb}
-use Rattle.cable.specs.declared.Refusal.{Refusal}
+use Rattle.refusals.specs.declared.Refusal.{Refusal}
 use Rattle.sheet.specs.Records.{origin, recordAt, checkedRecord}
 use Rattle.sheet.specs.declared.LoadRecord.{LoadRecord}
 use Rattle.sheet.specs.declared.RecordCheck.{RecordCheck}

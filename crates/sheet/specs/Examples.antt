@@ -4,8 +4,8 @@ use mathlib.Core.List.{List, [], _∷_, _++_}
 use Prim.Native.Nat.{ℕ, _/_, _%_}
 use lib.ListN.{replicate, take}
 use Rattle.cable.specs.Checks.{outsideField, checked}
-use Rattle.cable.specs.declared.Refusal.{Refusal}
-use Rattle.cable.specs.declared.Place.the-variants as P
+use Rattle.refusals.specs.declared.Refusal.{Refusal}
+use Rattle.refusals.specs.declared.Place.the-variants as P
 use Rattle.sheet.specs.BigEndian.{bigEndian}
 use Rattle.sheet.specs.Layout.{wrongLength}
 use Rattle.sheet.specs.Header.{cableOf, checkedHeader}

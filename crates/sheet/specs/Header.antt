@@ -1,12 +1,13 @@
 -- Document 01, 'The load sheet' and 'When the desk is told no': the header, and refusals 1 to 4 in their order.
-use mathlib.Core.Bool.{Bool, true, false, cond}
+use mathlib.Core.Bool.{cond}
 use mathlib.Core.List.{List}
 use Prim.Native.Nat.{ℕ, _-_, _*_}
 use lib.Dec.{ltb}
 use lib.ListN.{length}
 use Rattle.cable.specs.Checks.{checked}
+use Rattle.cable.specs.Group.{Group, Given, accepted, refused, alone}
 use Rattle.cable.specs.declared.Cable.{Cable}
-use Rattle.cable.specs.declared.Place.the-variants.{None}
+use Rattle.refusals.specs.declared.Place.the-variants.{None}
 use Rattle.cable.specs.declared.CableCheck.{CableCheck}
 use Rattle.cable.specs.declared.CableCheck.the-variants as C
 use Rattle.sheet.specs.BigEndian.{bigEndian}
@@ -31,6 +32,10 @@ cableOf s =
       «slow_rate» = fieldOf s 7;
       rated = fieldOf s 8;
     }
+
+-- the cable of the header, alone in its trench
+abbrev pub groupOf : List ℕ → Group
+groupOf s = alone (cableOf s)
 
 abbrev pub startingCurrent : List ℕ → ℕ
 startingCurrent s = bigEndian s 32 2
@@ -61,6 +66,10 @@ checkedHeader s =
     (cond (ltb mostStart (startingCurrent s)) (Refused (record { number = 4; place = None }))
     (Accepted (headerOf s))))
 
-abbrev pub headerRefuses : HeaderCheck → Bool
-headerRefuses (Accepted h) = false
-headerRefuses (Refused f) = true
+-- what a header gives a calculation: its cable alone in its trench, or its refusal
+abbrev pub asGiven : HeaderCheck → Given
+asGiven (Accepted h) = accepted (alone (h .cable))
+asGiven (Refused f) = refused f
+
+abbrev pub givenHeader : List ℕ → Given
+givenHeader s = asGiven (checkedHeader s)

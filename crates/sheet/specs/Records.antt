@@ -1,11 +1,11 @@
 -- Document 01, 'The load sheet' and 'When the desk is told no': a record, and refusals 5 to 8 in their order.
-use mathlib.Core.Bool.{Bool, true, false, cond}
+use mathlib.Core.Bool.{cond}
 use mathlib.Core.List.{List}
 use Prim.Native.Nat.{ℕ, suc, _+_}
 use lib.Dec.{eqb, leb, ltb}
 use lib.ListN.{length}
-use Rattle.cable.specs.Checks.{outside, _to_}
-use Rattle.cable.specs.declared.Place.the-variants as P
+use Rattle.refusals.specs.Ranges.{outside, _to_}
+use Rattle.refusals.specs.declared.Place.the-variants as P
 use Rattle.sheet.specs.BigEndian.{bigEndian}
 use Rattle.sheet.specs.Layout.{recordStart, recordCount, wrongLength}
 use Rattle.sheet.specs.Header.{startingCurrent, firstLink, mostAmperes}
@@ -59,7 +59,3 @@ checkedRecord before (Held r) =
     (cond (ltb mostAmperes (r .amperes)) (refusedAt 7 (r .number))
     (cond (leb (before .minutes) (r .minutes)) (refusedAt 8 (r .number))
     (Accepted r)))
-
-abbrev pub recordRefuses : RecordCheck → Bool
-recordRefuses (Accepted r) = false
-recordRefuses (Refused f) = true

@@ -1,20 +1,19 @@
 // The load sheet: its bytes, its header with refusals 1 to 4, and one record with refusals 5 to 8. Document 01, 'The load sheet'.
 ghost use mathlib.Core.Path.{_≡_};
 ghost use Prim.Native.Nat.{_+_, _*_, _≤_};
-ghost use lib.Dec.{T};
 ghost use lib.ListN.{length};
 ghost use Rattle.sheet.specs.BigEndian.{bigEndian};
-ghost use Rattle.sheet.specs.Layout.{recordStart, recordCount, wrongLength};
-ghost use Rattle.sheet.specs.Header.{fieldOf, cableOf, startingCurrent, firstLink, headerRefuses};
-ghost use Rattle.sheet.specs.Records.{recordOf, beforeFirst, refusedAt, recordRefuses};
+ghost use Rattle.sheet.specs.Layout.{headerLength, recordLength, mostRecords, recordStart, recordCount, wrongLength};
+ghost use Rattle.sheet.specs.Header.{fieldOf, cableOf, startingCurrent, firstLink};
+ghost use Rattle.sheet.specs.Records.{recordOf, beforeFirst, refusedAt};
 ghost use Rattle.sheet.specs.Promises.{HeaderSaid, RecordReadAs, RecordSaid};
 
 pub mod reader;
 
 use cable::Cable;
 use cable::CableCheck;
-use cable::Place;
-use cable::Refusal;
+use refusals::Place;
+use refusals::Refusal;
 
 // What stands before the records: the cable, the starting current in A and the first link.
 pub struct Header {
@@ -49,16 +48,19 @@ pub enum RecordCheck {
     Refused(Refusal),
 }
 
+// In bytes.
 const HEADER_LENGTH: usize = 36;
 
 const RECORD_LENGTH: usize = 6;
 
 const MOST_RECORDS: usize = 48;
 
+// A step's minutes before now.
 const LEAST_MINUTES: u32 = 1;
 
 const MOST_MINUTES: u32 = 2880;
 
+// In A: of the starting current, and of a record. Document 01 states each by itself.
 const MOST_START: u32 = 4000;
 
 const MOST_AMPERES: u32 = 4000;
@@ -71,13 +73,14 @@ fn number_at(sheet: &[u8], at: usize, width: usize) -> u32
     let mut number: u32 = 0;
     let mut i: usize = 0;
     while i < width {
-        number = number * 256 + wide(sheet[at + i]);
+        number = number * 256 + of_byte(sheet[at + i]);
         i += 1;
     }
     number
 }
 
-fn wide(byte: u8) -> u32
+// In a call of its own, so that its range is known.
+fn of_byte(byte: u8) -> u32
     ensures { λ r. ⌜ r ≡ byte ⌝ }
 {
     byte as u32
@@ -104,14 +107,14 @@ fn wrong_length(size: usize) -> bool
 
 // Field `number` of the table, counted from 1.
 fn field(sheet: &[u8], number: usize) -> u32
-    requires { ⌜ (1 ≤ number) × (number ≤ 8) × (36 ≤ length (now sheet)) ⌝ }
+    requires { ⌜ (1 ≤ number) × (number ≤ 8) × (headerLength ≤ length (now sheet)) ⌝ }
     ensures { λ r. ⌜ r ≡ fieldOf (now (sheet .entry)) number ⌝ }
 {
     number_at(sheet, 4 * (number - 1), 4)
 }
 
 fn cable_of(sheet: &[u8]) -> Cable
-    requires { ⌜ 36 ≤ length (now sheet) ⌝ }
+    requires { ⌜ headerLength ≤ length (now sheet) ⌝ }
     ensures { λ r. ⌜ r ≡ cableOf (now (sheet .entry)) ⌝ }
 {
     Cable {
@@ -127,14 +130,14 @@ fn cable_of(sheet: &[u8]) -> Cable
 }
 
 fn starting_current(sheet: &[u8]) -> u32
-    requires { ⌜ 36 ≤ length (now sheet) ⌝ }
+    requires { ⌜ headerLength ≤ length (now sheet) ⌝ }
     ensures { λ r. ⌜ r ≡ startingCurrent (now (sheet .entry)) ⌝ }
 {
     number_at(sheet, 32, 2)
 }
 
 fn first_link(sheet: &[u8]) -> usize
-    requires { ⌜ 36 ≤ length (now sheet) ⌝ }
+    requires { ⌜ headerLength ≤ length (now sheet) ⌝ }
     ensures { λ r. ⌜ r ≡ firstLink (now (sheet .entry)) ⌝ }
 {
     number_at(sheet, 34, 2) as usize
@@ -151,8 +154,9 @@ pub fn check_header(sheet: &[u8]) -> HeaderCheck
         });
     }
     let checked = cable::check_cable(cable_of(sheet));
-    let CableCheck::Accepted(cable) = checked else {
-        return HeaderCheck::Refused(cable::refusal_of(checked));
+    let cable = match checked {
+        CableCheck::Accepted(accepted) => accepted,
+        CableCheck::Refused(refusal) => return HeaderCheck::Refused(refusal),
     };
     let start = starting_current(sheet);
     if MOST_START < start {
@@ -163,20 +167,6 @@ pub fn check_header(sheet: &[u8]) -> HeaderCheck
     }
     let link = first_link(sheet);
     HeaderCheck::Accepted(Header { cable, start, link })
-}
-
-// The refusal of a header that is refused; the other arm is never taken.
-pub fn header_refusal(check: HeaderCheck) -> Refusal
-    requires { ⌜ T (headerRefuses check) ⌝ }
-    ensures { λ r. ⌜ check ≡ HeaderCheck.Refused r ⌝ }
-{
-    match check {
-        HeaderCheck::Refused(refusal) => refusal,
-        HeaderCheck::Accepted(_) => Refusal {
-            number: 1,
-            place: Place::None,
-        },
-    }
 }
 
 // The header as the record before the first: the starting current, from earlier than every step, and the first link.
@@ -209,7 +199,7 @@ pub fn record_at(sheet: &[u8], number: usize) -> RecordRead
 }
 
 fn held_record(sheet: &[u8], number: usize) -> LoadRecord
-    requires { ⌜ (1 ≤ number) × (number ≤ 48) × (recordStart number + 6 ≤ length (now sheet)) ⌝ }
+    requires { ⌜ (1 ≤ number) × (number ≤ mostRecords) × (recordStart number + recordLength ≤ length (now sheet)) ⌝ }
     ensures { λ r. ⌜ r ≡ recordOf (now (sheet .entry)) number ⌝ }
 {
     let at = HEADER_LENGTH + RECORD_LENGTH * (number - 1);
@@ -231,7 +221,7 @@ pub fn check_record(before: LoadRecord, read: RecordRead) -> RecordCheck
     let RecordRead::Held(record) = read else {
         return refused_at(5, before.number);
     };
-    if cable::outside(record.minutes, LEAST_MINUTES, MOST_MINUTES) {
+    if refusals::outside(record.minutes, LEAST_MINUTES, MOST_MINUTES) {
         return refused_at(6, record.number);
     }
     if MOST_AMPERES < record.amperes {
@@ -250,18 +240,4 @@ fn refused_at(number: u8, place: u8) -> RecordCheck
         number,
         place: Place::Record(place),
     })
-}
-
-// The refusal of a record that is refused; the other arm is never taken.
-pub fn record_refusal(check: RecordCheck) -> Refusal
-    requires { ⌜ T (recordRefuses check) ⌝ }
-    ensures { λ r. ⌜ check ≡ RecordCheck.Refused r ⌝ }
-{
-    match check {
-        RecordCheck::Refused(refusal) => refusal,
-        RecordCheck::Accepted(record) => Refusal {
-            number: 8,
-            place: Place::Record(record.number),
-        },
-    }
 }

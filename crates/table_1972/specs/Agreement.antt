@@ -9,9 +9,10 @@ use lib.ListN.{getD}
 use Rattle.numbers.specs.Integer.{up}
 use Rattle.bounds.specs.Operations.{pointB}
 use Rattle.bounds.specs.declared.Bounds.{Bounds}
+use Rattle.cable.specs.Group.{givenCable}
 use Rattle.cable.specs.declared.Cable.{Cable}
 use Rattle.share.specs.Answer.{shareAnswer}
-use Rattle.share.specs.Promises.{Millionths}
+use Rattle.distance.specs.Promised.{Millionths}
 use Rattle.share.specs.declared.ShareAnswer.{ShareAnswer}
 use Rattle.share.specs.declared.ShareAnswer.the-variants.{Pair, Refused}
 use Rattle.table_1972.specs.declared.Ends.{Ends}
@@ -39,7 +40,7 @@ unfoldable pub shareAfter : Cable → ℕ → ShareAnswer
 shareAfter cable hours =
     cond (eqb hours 0) (Pair (pointB (pos 0)))
     (cond (ltb 6 hours) (Pair (pointB (pos 1000000)))
-    (shareAnswer cable (60 * hours)))
+    (shareAnswer (givenCable cable) (60 * hours)))
 
 -- a pair is in millionths, from nothing to all
 abbrev pub InMillionths : ShareAnswer → Type 0

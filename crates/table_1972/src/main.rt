@@ -4,7 +4,7 @@
 // more values that are false on purpose, one to each side.
 ghost use mathlib.Core.Path.{_≡_};
 ghost use Prim.Native.Nat.{_≤_};
-ghost use Rattle.share.specs.Promises.{Millionths};
+ghost use Rattle.distance.specs.Promised.{Millionths};
 ghost use Rattle.table_1972.specs.Agreement.{surfaceCable, tableCable, shareAfter, InMillionths};
 ghost use Rattle.table_1972.specs.Agreement.{endsOf, near, agreesAt, oneIf, agreeingLines, agreeingColumns};
 use bounds::Bounds;

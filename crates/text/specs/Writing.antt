@@ -29,6 +29,10 @@ signedText (negsuc n) = minusSign ∷ decimalText (suc n)
 
 -- ---- lines
 
+-- The bytes of the longest line.
+abbrev pub lineRoom : ℕ
+lineRoom = 80
+
 abbrev pub written : Line → List ℕ
 written line = take (line .length) (line .bytes)
 

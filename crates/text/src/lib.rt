@@ -1,12 +1,12 @@
 // Decimal numbers as bytes: read from a text, and written into a line.
 ghost use mathlib.Core.Path.{_≡_};
 ghost use mathlib.Core.List.{[]};
-ghost use Prim.Native.Nat.{_+_, _-_, _<_, _≤_, min};
+ghost use Prim.Native.Nat.{_+_, _-_, _<_, _≤_};
 ghost use lib.IntN.{natAbs};
 ghost use lib.ListN.{length};
 ghost use Rattle.text.specs.Reading.{zeroDigit, isDigit, spelledBy, numberOf, sameBytes};
 ghost use Rattle.text.specs.Reading.{beyondSigned, withSign, hasMinus, asInteger, signedOf};
-ghost use Rattle.text.specs.Writing.{decimalText, signedText, written, Appended, AppendedNumber};
+ghost use Rattle.text.specs.Writing.{decimalText, signedText, lineRoom, written, Appended, AppendedNumber};
 
 // Above every number of 18 digits.
 const BEYOND_SIGNED: u64 = 1000000000000000000;
@@ -51,7 +51,7 @@ fn spelled_by(text: &[u8], most: u64) -> Spelled
         if !is_digit(byte) {
             return Spelled::NotDigits;
         }
-        number = least(10 * number + digit(byte), most);
+        number = numbers::least(10 * number + digit(byte), most);
         i += 1;
     }
     if i == 0 {
@@ -71,12 +71,6 @@ fn digit(byte: u8) -> u64
     ensures { λ r. ⌜ r ≡ byte - zeroDigit ⌝ }
 {
     (byte - b'0') as u64
-}
-
-fn least(a: u64, b: u64) -> u64
-    ensures { λ r. ⌜ r ≡ min a b ⌝ }
-{
-    if a < b { a } else { b }
 }
 
 // The number of the digits, below 0 after a minus sign.
@@ -126,9 +120,12 @@ pub fn same(a: &[u8], b: &[u8]) -> bool
     check::same(a, b)
 }
 
+// The bytes of the longest line.
+const LINE_ROOM: usize = 80;
+
 // A line of output in the making: its first `length` bytes are written.
 pub struct Line {
-    pub bytes: [u8; 80],
+    pub bytes: [u8; LINE_ROOM],
     pub length: usize,
 }
 
@@ -137,14 +134,14 @@ impl Line {
         ensures { λ r. ⌜ (written r ≡ []) × (r .length ≡ 0) ⌝ }
     {
         Line {
-            bytes: [0u8; 80],
+            bytes: [0u8; LINE_ROOM],
             length: 0,
         }
     }
 
     // The text after what is written.
     pub fn with(self, more: &[u8]) -> Line
-        requires { ⌜ self .length + length (now more) ≤ 80 ⌝ }
+        requires { ⌜ self .length + length (now more) ≤ lineRoom ⌝ }
         ensures { λ r. ⌜ Appended self (now (more .entry)) r ⌝ }
     {
         let start = self.length;
@@ -162,7 +159,7 @@ impl Line {
 
     // In decimal, of 20 digits at most.
     pub fn with_number(self, n: u64) -> Line
-        requires { ⌜ self .length ≤ 60 ⌝ }
+        requires { ⌜ self .length + 20 ≤ lineRoom ⌝ }
         ensures { λ r. ⌜ AppendedNumber self (decimalText n) r ⌝ }
     {
         self.with_digits(n)
@@ -170,7 +167,7 @@ impl Line {
 
     // In decimal, with a leading minus sign below 0: 20 bytes at most.
     pub fn with_signed(self, n: i64) -> Line
-        requires { ⌜ self .length ≤ 60 ⌝ }
+        requires { ⌜ self .length + 20 ≤ lineRoom ⌝ }
         ensures { λ r. ⌜ AppendedNumber self (signedText n) r ⌝ }
     {
         if n < 0 {
@@ -181,7 +178,7 @@ impl Line {
     }
 
     fn with_digits(self, n: u64) -> Line
-        requires { ⌜ self .length + length (decimalText n) ≤ 80 ⌝ }
+        requires { ⌜ self .length + length (decimalText n) ≤ lineRoom ⌝ }
         ensures { λ r. ⌜ Appended self (decimalText n) r ⌝ }
     {
         let mut digits = [0u8; 20];

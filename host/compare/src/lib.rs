@@ -1,6 +1,7 @@
 //! Holds the proved library against the second program, over inputs of every kind, and
 //! the built program `rise` against both and against the table of 1972, and the built
-//! programs and the library against the commands and tables that documents show.
+//! programs and the library against the commands and tables that documents show. The
+//! built program `rise_by_reader` gets all that `rise` gets, and must answer alike.
 
 mod check;
 mod distance;

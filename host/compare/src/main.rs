@@ -1,18 +1,20 @@
 //! The differential test's command line.
 
-use compare::{check, pages, program, shown, table, Input, Run, Tally};
+use compare::program::{self, Walks};
+use compare::{check, pages, shown, table, Input, Run, Tally};
 use std::ops::Range;
 use std::path::Path;
 use std::process::ExitCode;
 use std::time::{SystemTime, UNIX_EPOCH};
 
 const USAGE: &str = "\
-usage: compare [COUNT [SEED]]               library against second program
-       compare long                         the same, 10,000,000 inputs, seed from the clock
-       compare rise PROGRAM [COUNT [SEED]]  the same with sheets, through the program rise too
-       compare table PROGRAM                the table of 1972 through the program rise
-       compare shown ROOT PROGRAMS FILE..   the commands that files of ROOT show, run with PROGRAMS
-       compare pages ROOT PROGRAMS          the tables of ROOT's pages, against library and PROGRAMS";
+usage: compare [COUNT [SEED]]                library against second program
+       compare long                          the same, 10,000,000 inputs, seed from the clock
+       compare rise PROGRAMS [COUNT [SEED]]  the same with sheets, through the PROGRAMS too
+       compare table PROGRAMS                the table of 1972 through the PROGRAMS
+       compare shown ROOT PROGRAMS FILE..    the commands that files of ROOT show, run with PROGRAMS
+       compare pages ROOT PROGRAMS           the tables of ROOT's pages, against library and PROGRAMS
+PROGRAMS is the folder of the built programs. What rise gets goes to rise_by_reader too.";
 
 /// What the gate runs, so that it is repeatable.
 const GATE_COUNT: u64 = 1_000_000;
@@ -60,14 +62,17 @@ fn against_second(count: u64, seed: u64) -> bool {
     run(&asked, count, 1..14)
 }
 
-/// Sheets through the program; a sheet meets refusals 1 to 8.
-fn through_program(path: &str, count: u64, seed: u64) -> bool {
+/// Sheets through the programs; a sheet meets refusals 1 to 8.
+fn through_programs(programs: &str, count: u64, seed: u64) -> bool {
+    let walks = Walks::of(Path::new(programs));
     let asked = Run {
         seed,
         make: Input::any_rise,
-        check: &|input| program::check(Path::new(path), input),
+        check: &|input| program::check(&walks, input),
     };
-    run(&asked, count, 1..9)
+    let agreed = run(&asked, count, 1..9);
+    println!("{walks}");
+    agreed
 }
 
 fn clock() -> u64 {
@@ -93,10 +98,10 @@ fn command(words: &[&str]) -> Option<bool> {
             Some(shown::run(Path::new(root), Path::new(programs), files))
         }
         ["pages", root, programs] => Some(pages::run(Path::new(root), Path::new(programs))),
-        ["table", path] => Some(table::run(Path::new(path))),
-        ["rise", path, rest @ ..] => {
+        ["table", programs] => Some(table::run(Path::new(programs))),
+        ["rise", programs, rest @ ..] => {
             let (count, seed) = numbers(rest, GATE_SHEETS)?;
-            Some(through_program(path, count, seed))
+            Some(through_programs(programs, count, seed))
         }
         rest => {
             let (count, seed) = numbers(rest, GATE_COUNT)?;

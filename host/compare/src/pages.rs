@@ -200,7 +200,7 @@ pub fn check(page: &str, text: &str, desk: &Desk) -> Findings {
 
 /// Checks the tables of all pages; whether each holds.
 pub fn run(root: &Path, programs: &Path) -> bool {
-    let built = Built(programs);
+    let built = Built::of(programs);
     let desk = Desk {
         root,
         programs: &built,
@@ -221,5 +221,6 @@ pub fn run(root: &Path, programs: &Path) -> bool {
         );
         all &= failed.is_empty() && held > 0;
     }
+    println!("{}", built.walks);
     all
 }

@@ -1,7 +1,7 @@
-//! Table 1 of the 1972 paper, through the built program `rise`.
+//! Table 1 of the 1972 paper, through the built programs `rise` and `rise_by_reader`.
 
 use crate::input::hexadecimal;
-use crate::program;
+use crate::program::Walks;
 use std::fmt;
 use std::path::Path;
 
@@ -70,21 +70,23 @@ pub fn agrees(line: &str, value: i64) -> bool {
     low <= high && (low - value).abs() <= most && (high - value).abs() <= most
 }
 
-/// Runs every sheet through the program, says what came of it, and whether all agree.
-pub fn run(program: &Path) -> bool {
+/// Runs every sheet through the programs, says what came of it, and whether all agree.
+pub fn run(programs: &Path) -> bool {
     let rows = rows(TABLE);
+    let walks = Walks::of(programs);
     let mut agreeing = 0;
     for row in &rows {
         if row.printed != row.read {
             println!("{row}: a misprint for {}: {}", row.read, row.remark);
         }
-        match program::printed(program, &row.sheet) {
+        match walks.printed(&row.sheet) {
             Ok(answer) if agrees(&answer, millionths(row.read)) => agreeing += 1,
-            other => println!("DISAGREEMENT\n{row}, but the program: {other:?}"),
+            other => println!("DISAGREEMENT\n{row}, but the programs: {other:?}"),
         }
     }
     let all = rows.len();
     println!("{agreeing} of {all} values agree within 0.001 and the pair's width");
+    println!("{walks}");
     agreeing == all
 }
 

@@ -1,18 +1,10 @@
 //! The paper's cases C1 to C12 and its small examples of refusals. Document 02, note 1:
 //! 'C3 and C4 keep their answers.'
 
-use second::{current, factor, rise, share, sheet, Cable, Place, Refusal};
+mod common;
 
-const A: Cable = Cable {
-    d: 500,
-    l: 1_000,
-    s: 500,
-    k: 600_000,
-    w: 500_000,
-    fast: 1_000,
-    slow: 100,
-    rated: 400,
-};
+use common::A;
+use second::{current, factor, rise, share, sheet, Cable, Place, Refusal};
 
 const B: Cable = Cable {
     k: 0,

@@ -4,18 +4,10 @@
 //! N1F04 of data/reference-notes.tsv, or was worked out to 60 digits with mpmath from the
 //! formulas of document 000, sum by sum and not gathered.
 
-use second::{factor, share, Cable};
+mod common;
 
-const A: Cable = Cable {
-    d: 500,
-    l: 1_000,
-    s: 500,
-    k: 600_000,
-    w: 500_000,
-    fast: 1_000,
-    slow: 100,
-    rated: 400,
-};
+use common::A;
+use second::{factor, share, Cable};
 
 /// The reference values, computed at 60 digits by no code of this project.
 const REFERENCE: &str = include_str!("../../../data/reference.tsv");

@@ -4,7 +4,7 @@ use native.Mathlib.Omega.{arith}
 use Rattle.bounds.specs.Pair.{Pair, asBounds}
 use Rattle.bounds.proofs.Pairs.{times-pair}
 use Rattle.model.specs.Scale.{exactly}
-use Rattle.model.specs.Share.{beta, surfaceFactor, cableLogarithm, cableIntegral, attainedShare}
+use Rattle.model.specs.Share.{beta, surfaceFactor, cableLogarithm, cableIntegral, withLogarithms, withIntegrals, attainedShare}
 use Rattle.series.proofs.Products.{product-fits}
 use Rattle.attained.proofs.Parts.{share-is}
 use Rattle.attained.proofs.Cable.{cable-times-room, top-seen, cable-span, beta-room, factor-asked, share-room}
@@ -101,7 +101,7 @@ at-most-requires : tie.Need-at-most-requires
 at-most-requires c κs = search needs
 
 returns : tie.Need-returns
-unfolding attainedShare
+unfolding attainedShare withLogarithms withIntegrals
 returns c =
     let p = c .before .before in
     rw (c .at-most .ensures .is, c .before .scaled-mul .ensures .is, p .attainment .ensures, factor-is (p .before)) (share-is _ _)

@@ -1,10 +1,11 @@
--- The loop fills the six shares; the share of an accepted cable is not refused. Assumes nothing.
+-- The loop fills the six shares; the share of an accepted cable in use is not refused at a whole hour. Assumes nothing.
 use mathlib.Core.Path.{_≡_, refl, sym, ap, subst, _∙_}
 use Prim.Native.Nat.{_-_, _≤_, suc}
 use native.Mathlib.Numerals.{add-one}
 use native.Mathlib.Omega.{arith}
 use borrow.Author.Needs.{needs}
 use Rattle.bounds.specs.declared.Bounds.{Bounds}
+use Rattle.cable.specs.Group.{only}
 use Rattle.share.proofs.Promises.{answered-pair}
 use Rattle.cycle.specs.Heating.{heatingHours}
 use Rattle.cycle.specs.Factor.{largestFactor}
@@ -16,10 +17,10 @@ use Rattle.cycle.proofs.factor_of_day.Statement.{statement}
 use Rattle.cycle.proofs.factor_of_day.Tie as tie
 
 abbrev Inv-loop : tie.InvT-loop
-Inv-loop cable hours shares₀ i₀ shares i = (i ≤ heatingHours) × (Filled cable shares i)
+Inv-loop used hours shares₀ i₀ shares i = (i ≤ heatingHours) × (Filled (only used) shares i)
 
 abbrev μ-loop : tie.MeasureT-loop
-μ-loop cable hours shares₀ i₀ shares i = heatingHours - i
+μ-loop used hours shares₀ i₀ shares i = heatingHours - i
 
 whole-requires : tie.Need-whole-requires Inv-loop μ-loop
 whole-requires c κs = omega arith
@@ -27,17 +28,17 @@ whole-requires c κs = omega arith
 loop-holds : tie.Need-loop-holds Inv-loop μ-loop
 loop-holds c = (omega arith, none-filled refl)
 
-cast-share : tie.Need-cast-share Inv-loop μ-loop
-cast-share c = omega arith
+cast-share-of : tie.Need-cast-share-of Inv-loop μ-loop
+cast-share-of c = omega arith
 
-add-share : tie.Need-add-share Inv-loop μ-loop
-add-share c = omega arith
+add-share-of : tie.Need-add-share-of Inv-loop μ-loop
+add-share-of c = omega arith
 
-mul-share : tie.Need-mul-share Inv-loop μ-loop
-mul-share c = omega arith
+mul-share-of : tie.Need-mul-share-of Inv-loop μ-loop
+mul-share-of c = omega arith
 
-share-requires : tie.Need-share-requires Inv-loop μ-loop
-share-requires c κs = tt
+share-of-requires : tie.Need-share-of-requires Inv-loop μ-loop
+share-of-requires c κs = c .before .before .before .pre .accepted
 
 enum-known-answer : tie.Need-enum-known-answer Inv-loop μ-loop
 enum-known-answer c = search needs
@@ -45,25 +46,29 @@ enum-known-answer c = search needs
 enum-told : tie.Need-enum-told Inv-loop μ-loop
 enum-told c = search needs
 
-refusal-of-requires : tie.Need-refusal-of-requires Inv-loop μ-loop
-refusal-of-requires c κs = rw (c .enum-told .given .1) tt
+parts-requires : tie.Need-parts-requires Inv-loop μ-loop
+parts-requires c κs = search needs
+
+refusal-in-requires : tie.Need-refusal-in-requires Inv-loop μ-loop
+refusal-in-requires c κs = search needs
 
 returns : tie.Need-returns Inv-loop μ-loop
 returns c =
-    let turn = c .before .before .before .before in
-    let s = turn .before .before .before in
+    let told = c .before .before in
+    let share = told .before .before in
+    let turn = share .before in
     absurd
-    (hour-not-refused (s .args .cable) (turn .before .loop .i) (s .pre .accepted) (omega arith)
-    (sym (c .before .before .before .share .ensures .answer) ∙ c .refusal-of .ensures))
+    (hour-not-refused (only (turn .before .before .before .args .used)) (turn .before .loop .i) (omega arith)
+    (sym (share .share-of .ensures) ∙ told .enum-told .given .1))
 
 -- the pair of the turn
 module _ (k : tie.After-known-told Inv-loop μ-loop) where
-  given : k .before .answer .given .0 .0 ≡ hourPair (k .before .before .before .before .before .before .before .args .cable) (suc (k .before .before .before .before .before .loop .i))
+  given : k .before .answer .given .0 .0 ≡ hourPair (only (k .before .before .before .before .before .before .before .args .used)) (suc (k .before .before .before .before .before .loop .i))
   given =
       let share = k .before .before .before in
       let turn = share .before .before in
-      let cable = turn .before .before .args .cable in
-      answered-pair cable _ (sym (share .share .ensures .answer) ∙ k .before .answer .given .1) ∙ ap (hourPair cable) (add-one (turn .loop .i))
+      let g = only (turn .before .before .args .used) in
+      answered-pair g _ (sym (share .share-of .ensures) ∙ k .before .answer .given .1) ∙ ap (hourPair g) (add-one (turn .loop .i))
 
 mul-shares : tie.Need-mul-shares Inv-loop μ-loop
 mul-shares c = omega arith
@@ -81,11 +86,11 @@ loop-again : tie.Need-loop-again Inv-loop μ-loop
 loop-again c = (omega arith, next-filled (c .before .before .before .before .before .loop .inv .1) (omega arith) (given c))
 
 -- after the loop
-all-filled : (k : tie.After-loop Inv-loop μ-loop) → Filled (k .before .before .before .args .cable) (k .before .loop .shares) heatingHours
+all-filled : (k : tie.After-loop Inv-loop μ-loop) → Filled (only (k .before .before .before .args .used)) (k .before .loop .shares) heatingHours
 all-filled k =
     let v = k .before .loop in
     let e : v .i ≡ heatingHours = omega arith in
-    subst (Filled (k .before .before .before .args .cable) (v .shares)) e (v .inv .1)
+    subst (Filled (only (k .before .before .before .args .used)) (v .shares)) e (v .inv .1)
 
 largest-sum-requires : tie.Need-largest-sum-requires Inv-loop μ-loop
 largest-sum-requires c κs = filled-shared (all-filled c) _ (c .before .before .before .pre .loaded)
@@ -106,13 +111,14 @@ factor-of-day-spec =
     μ-loop
     whole-requires
     loop-holds
-    cast-share
-    add-share
-    mul-share
-    share-requires
+    cast-share-of
+    add-share-of
+    mul-share-of
+    share-of-requires
     enum-known-answer
     enum-told
-    refusal-of-requires
+    parts-requires
+    refusal-in-requires
     returns
     mul-shares
     array-set-from-shares

@@ -1,10 +1,11 @@
 -- The hour's square, or the sum of all, by the definition's test. Assumes nothing.
 use mathlib.Core.Path.{ap, _∙_}
-use Prim.Native.Nat.{ℕ, _*_}
+use Prim.Native.Nat.{ℕ, _*_, _≤_}
 use native.Mathlib.Omega.{arith}
 use borrow.Author.Tests.{lt-ltb, le-ltb}
-use Rattle.cycle.specs.Heating.{heatingHours, relativeLoad}
 use borrow.Author.Needs.{needs}
+use Rattle.cycle.specs.Heating.{heatingHours, relativeLoad}
+use Rattle.cycle.proofs.Day.{mostSquare, square-to}
 use Rattle.cycle.proofs.relative_load.Statement.{statement}
 use Rattle.cycle.proofs.relative_load.Tie as tie
 
@@ -20,17 +21,23 @@ mul-square c = search needs
 array-read-square : tie.Need-array-read-square
 array-read-square c = search needs
 
+cast-square : tie.Need-cast-square
+cast-square c = search needs
+
 square-requires : tie.Need-square-requires
 square-requires c κs = search needs
 
+square-small : (k : tie.After-square) → k .square .result ≤ mostSquare
+square-small k = square-to (k .square .ensures) (search needs)
+
 mul-result : tie.Need-mul-result
-mul-result c = search needs
+mul-result c = omega (arith, square-small c)
 
 returns : tie.Need-returns
 unfolding relativeLoad
 returns c =
     let s = c .before .before .args in
-    (ap (λ (n : ℕ). 24 * n) (c .square .ensures .0) ∙ rw (relativeLoad, lt-ltb (s .i) heatingHours (c .before .if1 .taken)), omega arith)
+    (ap (λ (n : ℕ). 24 * n) (c .square .ensures) ∙ rw (relativeLoad, lt-ltb (s .i) heatingHours (c .before .if1 .taken)), omega (arith, square-small c))
 
 returns-2 : tie.Need-returns-2
 unfolding relativeLoad
@@ -46,6 +53,7 @@ relative-load-spec =
     sub-at
     mul-square
     array-read-square
+    cast-square
     square-requires
     mul-result
     returns

@@ -28,6 +28,9 @@ square-requires-3 c κs = search needs
 mul-load : tie.Need-mul-load
 mul-load c = omega (arith, at-end c)
 
+cast-limit : tie.Need-cast-limit
+cast-limit c = search needs
+
 mul-limit : tie.Need-mul-limit
 mul-limit c = search needs
 
@@ -67,6 +70,7 @@ certified-spec =
     mul-preload
     square-requires-3
     mul-load
+    cast-limit
     mul-limit
     mul-limit-2
     mul-result

@@ -10,29 +10,29 @@ use Rattle.history.proofs.Sizes.{square-most, change-sized, change-is}
 use Rattle.history.proofs.change.Statement.{statement}
 use Rattle.history.proofs.change.Tie as tie
 
-squared-requires : tie.Need-squared-requires
-squared-requires c κs = search needs
+square-requires : tie.Need-square-requires
+square-requires c κs = search needs
 
 whole-requires : tie.Need-whole-requires
-whole-requires c κs = omega (arith, c .squared .ensures, square-most (c .before .pre .1))
+whole-requires c κs = omega (arith, c .square .ensures, square-most (c .before .pre .1))
 
-squared-requires-2 : tie.Need-squared-requires-2
-squared-requires-2 c κs = search needs
+square-requires-2 : tie.Need-square-requires-2
+square-requires-2 c κs = search needs
 
 whole-requires-2 : tie.Need-whole-requires-2
-whole-requires-2 c κs = omega (arith, c .squared2 .ensures, square-most (c .before .before .before .pre .0))
+whole-requires-2 c κs = omega (arith, c .square2 .ensures, square-most (c .before .before .before .pre .0))
 
 neg-requires : tie.Need-neg-requires
 neg-requires c κs =
     let k = c .before in
-    rw (c .whole2 .ensures .is, k .squared2 .ensures)
+    rw (c .whole2 .ensures .is, k .square2 .ensures)
     (record { low = omega (arith, square-most (k .before .before .before .pre .0)); high = omega (arith, square-most (k .before .before .before .pre .0)) })
 
 difference : (c : tie.After-neg) → addB (c .before .before .before .whole .result) (c .neg .result) ≡ pointB (changeOf (c .before .before .before .before .before .args .previous) (c .before .before .before .before .before .args .amperes))
 difference c =
     let k = c .before .before in
-    change-is _ _ (k .before .whole .ensures .is ∙ ap (λ n. pointB (pos n)) (k .before .before .squared .ensures))
-    (c .before .whole2 .ensures .is ∙ ap (λ n. pointB (pos n)) (k .squared2 .ensures)) (c .neg .ensures .is)
+    change-is _ _ (k .before .whole .ensures .is ∙ ap (λ n. pointB (pos n)) (k .before .before .square .ensures))
+    (c .before .whole2 .ensures .is ∙ ap (λ n. pointB (pos n)) (k .square2 .ensures)) (c .neg .ensures .is)
 
 add-requires : tie.Need-add-requires
 add-requires c κs =
@@ -46,9 +46,9 @@ pub change-spec : {M : Type 1} → statement M
 change-spec =
     tie.close
     (tie.spec
-    squared-requires
+    square-requires
     whole-requires
-    squared-requires-2
+    square-requires-2
     whole-requires-2
     neg-requires
     add-requires

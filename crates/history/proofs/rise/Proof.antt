@@ -12,22 +12,25 @@ check-header-requires c κs = search needs
 enum-known-checked : tie.Need-enum-known-checked
 enum-known-checked c = search needs
 
-enum-told : tie.Need-enum-told
-enum-told c = search needs
+enum-known-checked-2 : tie.Need-enum-known-checked-2
+enum-known-checked-2 c = search needs
 
-header-refusal-requires : tie.Need-header-refusal-requires
-header-refusal-requires c κs = rw (c .enum-told .given .1) tt
-
-returns : tie.Need-returns
-returns c = said (header-refused _ (sym (c .before .before .before .check-header .ensures .answer) ∙ c .header-refusal .ensures))
+alone-requires : tie.Need-alone-requires
+alone-requires c κs = search needs
 
 before-first-requires : tie.Need-before-first-requires
 before-first-requires c κs = search needs
 
 chain-rise-requires : tie.Need-chain-rise-requires
 chain-rise-requires c κs =
-    let k = c .before .before .before in
-    begins-plain _ (sym (k .before .before .check-header .ensures .answer) ∙ k .checked .given .1) (c .before .before-first .ensures)
+    let a = c .before in
+    let k = a .before .before in
+    begins-plain _ (sym (k .before .before .check-header .ensures .answer) ∙ k .checked2 .given .1) (a .alone .ensures .answer) (c .before-first .ensures)
+
+returns : tie.Need-returns
+returns c =
+    let k = c .before in
+    said (header-refused _ (sym (k .before .before .check-header .ensures .answer) ∙ k .checked .given .1))
 
 returns-2 : tie.Need-returns-2
 returns-2 c = search needs
@@ -38,9 +41,9 @@ rise-spec =
     (tie.spec
     check-header-requires
     enum-known-checked
-    enum-told
-    header-refusal-requires
-    returns
+    enum-known-checked-2
+    alone-requires
     before-first-requires
     chain-rise-requires
+    returns
     returns-2)

@@ -1,5 +1,6 @@
--- The answer of the current of the array's cable.
+-- The current of the array's cable, taken apart and copied.
 use borrow.Author.Needs.{needs}
+use Rattle.kechmowad.proofs.Crossing.{crosses}
 use Rattle.kechmowad.proofs.kechmowad_current.Statement.{statement}
 use Rattle.kechmowad.proofs.kechmowad_current.Tie as tie
 
@@ -9,17 +10,21 @@ cable-from-requires c κs = search needs
 current-requires : tie.Need-current-requires
 current-requires c κs = search needs
 
-current-numbers-requires : tie.Need-current-numbers-requires
-current-numbers-requires c κs = search needs
+parts-requires : tie.Need-parts-requires
+parts-requires c κs = search needs
+
+copied-requires : tie.Need-copied-requires
+copied-requires c κs = search needs
 
 returns : tie.Need-returns
 returns c =
-    record {
-      answer = c .before .current .result;
-      said = rw (c .before .before .cable-from .ensures) at (c .before .current .ensures);
-      crossed = c .current-numbers .ensures;
-    }
+    let answered = c .before .before in
+    crosses
+    (answered .current .result)
+    (rw (answered .before .cable-from .ensures) at (answered .current .ensures))
+    (c .before .parts .ensures)
+    (c .copied .ensures)
 
 pub kechmowad-current-spec : {M : Type 1} → statement M
 kechmowad-current-spec =
-    tie.close (tie.spec cable-from-requires current-requires current-numbers-requires returns)
+    tie.close (tie.spec cable-from-requires current-requires parts-requires copied-requires returns)

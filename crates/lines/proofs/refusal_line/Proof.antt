@@ -5,9 +5,6 @@ use borrow.Author.Needs.{needs}
 use Rattle.lines.proofs.refusal_line.Statement.{statement}
 use Rattle.lines.proofs.refusal_line.Tie as tie
 
-place-number-requires : tie.Need-place-number-requires
-place-number-requires c κs = search needs
-
 empty-requires : tie.Need-empty-requires
 empty-requires c κs = search needs
 
@@ -17,9 +14,6 @@ slice-aggregate-with c = search needs
 with-requires : tie.Need-with-requires
 with-requires c κs = search needs
 
-cast-with-number : tie.Need-cast-with-number
-cast-with-number c = search needs
-
 with-number-requires : tie.Need-with-number-requires
 with-number-requires c κs = search needs
 
@@ -28,9 +22,6 @@ slice-aggregate-with-2 c = search needs
 
 with-requires-2 : tie.Need-with-requires-2
 with-requires-2 c κs = search needs
-
-cast-with-number-2 : tie.Need-cast-with-number-2
-cast-with-number-2 c = search needs
 
 with-number-requires-2 : tie.Need-with-number-requires-2
 with-number-requires-2 c κs = search needs
@@ -46,13 +37,13 @@ unfolding refusalLine
 returns c =
     record {
       says =
-          from-empty (c .before .before .before .before .before .before .before .before .before .empty .ensures .0)
+          from-empty (c .before .before .before .before .before .before .before .before .empty .ensures .0)
           (then
           (then
           (then
-          (then (c .before .before .before .before .before .before .before .with .ensures) (c .before .before .before .before .before .with-number .ensures .appended))
+          (then (c .before .before .before .before .before .before .with .ensures) (c .before .before .before .before .before .with-number .ensures .appended))
           (c .before .before .before .with2 .ensures))
-          (rw (c .before .before .before .before .before .before .before .before .before .before .place-number .ensures) at (c .before .before .with-number2 .ensures .appended)))
+          (c .before .before .with-number2 .ensures .appended))
           (c .with3 .ensures));
       room = search needs;
     }
@@ -61,15 +52,12 @@ pub refusal-line-spec : {M : Type 1} → statement M
 refusal-line-spec =
     tie.close
     (tie.spec
-    place-number-requires
     empty-requires
     slice-aggregate-with
     with-requires
-    cast-with-number
     with-number-requires
     slice-aggregate-with-2
     with-requires-2
-    cast-with-number-2
     with-number-requires-2
     slice-aggregate-with-3
     with-requires-3

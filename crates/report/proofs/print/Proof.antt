@@ -4,19 +4,20 @@ use native.Mathlib.Omega.{arith}
 use borrow.Author.Needs.{needs}
 use lib.ListN.{length}
 use lib.Seq.{length-take-le}
+use Rattle.text.specs.Writing.{lineRoom}
 use Rattle.report.proofs.print.Statement.{statement}
 use Rattle.report.proofs.print.Tie as tie
 
-all-80 : (s : tie.Start) → length (s .args .line .bytes) ≡ 80
-all-80 s = search needs
+all-room : (s : tie.Start) → length (s .args .line .bytes) ≡ lineRoom
+all-room s = search needs
 
 array-share-prefix-bytes : tie.Need-array-share-prefix-bytes
-array-share-prefix-bytes c = omega (arith, all-80 (c .before .before))
+array-share-prefix-bytes c = omega (arith, all-room (c .before .before))
 
 slice-aggregate-put : tie.Need-slice-aggregate-put
 slice-aggregate-put c =
     let s = c .before .before .before in
-    sym (length-take-le (s .args .line .length) (s .args .line .bytes) (omega (arith, all-80 s)))
+    sym (length-take-le (s .args .line .length) (s .args .line .bytes) (omega (arith, all-room s)))
 
 put-requires : tie.Need-put-requires
 put-requires c κs = search needs

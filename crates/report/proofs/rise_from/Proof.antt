@@ -25,11 +25,11 @@ filled k = rw (k .before .input .given .1) at (k .before .before .before .before
 array-share-prefix-buffer : tie.Need-array-share-prefix-buffer
 array-share-prefix-buffer c = filled c .0
 
-slice-aggregate-rise : tie.Need-slice-aggregate-rise
-slice-aggregate-rise c = filled (c .before) .1
+slice-aggregate-walked : tie.Need-slice-aggregate-walked
+slice-aggregate-walked c = filled (c .before) .1
 
-rise-requires : tie.Need-rise-requires
-rise-requires c κs = search needs
+walked-requires : tie.Need-walked-requires
+walked-requires c κs = search needs
 
 returns-2 : tie.Need-returns-2
 returns-2 c = search needs
@@ -44,6 +44,6 @@ rise-from-spec =
     enum-told
     returns
     array-share-prefix-buffer
-    slice-aggregate-rise
-    rise-requires
+    slice-aggregate-walked
+    walked-requires
     returns-2)

@@ -1,37 +1,19 @@
--- Case by case, the line of the definition.
+-- The line of what the answer states.
 use borrow.Author.Needs.{needs}
 use Rattle.report.proofs.rise_line.Statement.{statement}
 use Rattle.report.proofs.rise_line.Tie as tie
 
-enum-known-answer : tie.Need-enum-known-answer
-enum-known-answer c = search needs
+slice-aggregate-answer-line : tie.Need-slice-aggregate-answer-line
+slice-aggregate-answer-line c = search needs
 
-slice-aggregate-pair-line : tie.Need-slice-aggregate-pair-line
-slice-aggregate-pair-line c = search needs
+parts-requires : tie.Need-parts-requires
+parts-requires c κs = search needs
 
-pair-line-requires : tie.Need-pair-line-requires
-pair-line-requires c κs = search needs
-
-enum-known-answer-2 : tie.Need-enum-known-answer-2
-enum-known-answer-2 c = search needs
-
-refusal-line-requires : tie.Need-refusal-line-requires
-refusal-line-requires c κs = search needs
+answer-line-requires : tie.Need-answer-line-requires
+answer-line-requires c κs = search needs
 
 returns : tie.Need-returns
-returns c = rw (c .before .before .before .answer .given .1) (c .pair-line .ensures)
-
-returns-2 : tie.Need-returns-2
-returns-2 c = rw (c .before .before .answer2 .given .1) (c .refusal-line .ensures)
+returns c = rw (c .before .parts .ensures) at (c .answer-line .ensures)
 
 pub rise-line-spec : {M : Type 1} → statement M
-rise-line-spec =
-    tie.close
-    (tie.spec
-    enum-known-answer
-    slice-aggregate-pair-line
-    pair-line-requires
-    enum-known-answer-2
-    refusal-line-requires
-    returns
-    returns-2)
+rise-line-spec = tie.close (tie.spec slice-aggregate-answer-line parts-requires answer-line-requires returns)

@@ -1,7 +1,7 @@
 -- `share::pair_of` hands the cable in use on to the fixed point.
 use borrow.Author.Needs.{needs}
 use mathlib.Core.Path.{sym, _∙_}
-use Rattle.share.specs.Pair.{pair-in-use-is}
+use Rattle.share.specs.Pair.{share-pair-is}
 use Rattle.share.proofs.pair_of.Statement.{statement}
 use Rattle.share.proofs.pair_of.Tie as tie
 
@@ -33,7 +33,7 @@ attained-share-requires : tie.Need-attained-share-requires
 attained-share-requires c κs = search needs
 
 returns : tie.Need-returns
-returns c = c .attained-share .ensures ∙ sym (pair-in-use-is _ _)
+returns c = c .attained-share .ensures ∙ sym (share-pair-is _ _)
 
 pub pair-of-spec : {M : Type 1} → statement M
 pair-of-spec =

@@ -42,16 +42,13 @@ cable-checked k = rw (← k .before .cable-of .ensures) (sym (k .check-cable .en
 enum-known-checked : tie.Need-enum-known-checked
 enum-known-checked c = search needs
 
-enum-told : tie.Need-enum-told
-enum-told c = search needs
-
-refusal-of-requires : tie.Need-refusal-of-requires
-refusal-of-requires c κs = rw (c .enum-told .given .1) tt
+enum-known-checked-2 : tie.Need-enum-known-checked-2
+enum-known-checked-2 c = search needs
 
 returns-2 : tie.Need-returns-2
 returns-2 c =
     let k = c .before .before .before in
-    record { answer = cable-refused _ (passed (k .before .before)) (cable-checked k ∙ c .refusal-of .ensures) }
+    record { answer = cable-refused _ (passed (k .before .before)) (cable-checked k ∙ c .before .checked2 .given .1) }
 
 -- the cable passed
 accepted : (k : tie.After-known-told) → checked (cableOf (k .before .before .before .before .before .before .before .before .args .sheet .now)) ≡ C.Accepted (k .before .checked .given .0 .0)
@@ -92,8 +89,7 @@ check-header-spec =
     cable-of-requires
     check-cable-requires
     enum-known-checked
-    enum-told
-    refusal-of-requires
+    enum-known-checked-2
     returns-2
     starting-current-requires
     returns-3

@@ -2,7 +2,7 @@
 use mathlib.Core.Path.{_≡_, sym, _∙_}
 use mathlib.Core.Bool.{false}
 use borrow.Author.Needs.{needs}
-use Rattle.cable.specs.Checks.{outside, _to_}
+use Rattle.refusals.specs.Ranges.{outside, _to_}
 use Rattle.sheet.specs.Records.{leastMinutes, mostMinutes}
 use Rattle.sheet.proofs.RecordChecks.{link-refused, minutes-refused, amperes-refused, order-refused, record-accepted}
 use Rattle.sheet.proofs.check_record.Statement.{statement}

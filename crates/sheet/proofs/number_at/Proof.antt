@@ -28,14 +28,14 @@ room c =
 mul-number : tie.Need-mul-number Inv-loop μ-loop
 mul-number c = omega (arith, room c)
 
-add-wide : tie.Need-add-wide Inv-loop μ-loop
-add-wide c = omega arith
+add-of-byte : tie.Need-add-of-byte Inv-loop μ-loop
+add-of-byte c = omega arith
 
-shared-slice-read-wide : tie.Need-shared-slice-read-wide Inv-loop μ-loop
-shared-slice-read-wide c = omega arith
+shared-slice-read-of-byte : tie.Need-shared-slice-read-of-byte Inv-loop μ-loop
+shared-slice-read-of-byte c = omega arith
 
-wide-requires : tie.Need-wide-requires Inv-loop μ-loop
-wide-requires c κs = tt
+of-byte-requires : tie.Need-of-byte-requires Inv-loop μ-loop
+of-byte-requires c κs = tt
 
 add-number : tie.Need-add-number Inv-loop μ-loop
 add-number c =
@@ -69,9 +69,9 @@ number-at-spec =
     μ-loop
     loop-holds
     mul-number
-    add-wide
-    shared-slice-read-wide
-    wide-requires
+    add-of-byte
+    shared-slice-read-of-byte
+    of-byte-requires
     add-number
     add-i
     loop-less

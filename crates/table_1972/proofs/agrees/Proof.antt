@@ -5,8 +5,8 @@ use Prim.Native.Nat.{ℕ, _+_}
 use borrow.Author.Needs.{needs}
 use Rattle.bounds.specs.declared.Bounds.{Bounds}
 use Rattle.cable.specs.declared.Cable.{Cable}
-use Rattle.cable.specs.declared.Refusal.{Refusal}
-use Rattle.share.specs.Promises.{Millionths}
+use Rattle.refusals.specs.declared.Refusal.{Refusal}
+use Rattle.distance.specs.Promised.{Millionths}
 use Rattle.share.specs.declared.ShareAnswer.{ShareAnswer}
 use Rattle.share.specs.declared.ShareAnswer.the-variants.{Pair, Refused}
 use Rattle.table_1972.specs.Agreement.{tableCable, shareAfter, InMillionths, endsOf, near, between, agreesAt}

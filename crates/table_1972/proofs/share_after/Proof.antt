@@ -1,21 +1,30 @@
 -- The pair that a share answers is in millionths, and so are those of nothing and of all.
-use mathlib.Core.Path.{_≡_, refl, _∙_}
+use mathlib.Core.Path.{_≡_, sym, subst, _∙_}
+use mathlib.Core.Bool.{Bool, true, false, cond}
 use Prim.Native.Nat.{ℕ, _*_, _≤_, _<_}
 use borrow.Author.Needs.{needs}
 use borrow.Author.Tests.{eq-eqb, ne-eqb, lt-ltb, le-ltb}
 use lib.IntN.{pos}
 use Rattle.bounds.specs.Operations.{pointB}
 use Rattle.cable.specs.declared.Cable.{Cable}
-use Rattle.share.specs.Answer.{ShareSaid, shareAnswer}
-use Rattle.share.specs.declared.ShareAnswer.{ShareAnswer}
+use Rattle.refusals.specs.Ranges.{outside, _to_}
+use Rattle.cable.specs.Group.{Group, Given, accepted, refused, givenCable}
+use Rattle.share.specs.Pair.{sharePair}
+use Rattle.share.specs.Answer.{mostMinutes, refused9, shareFrom, shareAnswer}
+use Rattle.share.proofs.Promises.{share-pair-range}
 use Rattle.share.specs.declared.ShareAnswer.the-variants.{Pair, Refused}
 use Rattle.table_1972.specs.Agreement.{shareAfter, InMillionths}
 use Rattle.table_1972.proofs.share_after.Statement.{statement}
 use Rattle.table_1972.proofs.share_after.Tie as tie
 
-said-in-millionths : {cable : Cable} {minutes : ℕ} (r : ShareAnswer) → ShareSaid cable minutes r → InMillionths r
-said-in-millionths (Pair b) s = s .distance (b .low) (b .high) refl .range
-said-in-millionths (Refused f) s = tt
+by-minutes : (g : Group) (minutes : ℕ) (o : Bool) → InMillionths (cond o (Refused refused9) (Pair (sharePair g minutes)))
+by-minutes g minutes true = tt
+by-minutes g minutes false = share-pair-range g minutes
+
+answer-in-millionths : (given : Given) (minutes : ℕ) → InMillionths (shareAnswer given minutes)
+unfolding shareFrom
+answer-in-millionths (accepted g) minutes = by-minutes g minutes (outside (1 to mostMinutes) minutes)
+answer-in-millionths (refused f) minutes = tt
 
 module _ (cable : Cable) (hours : ℕ) where
   nothing : hours ≡ 0 → Pair (pointB (pos 0)) ≡ shareAfter cable hours
@@ -27,7 +36,7 @@ module _ (cable : Cable) (hours : ℕ) where
     unfolding shareAfter
     all h = rw (ne-eqb hours 0 n, lt-ltb 6 hours h, shareAfter)
 
-    asked : hours ≤ 6 → shareAnswer cable (60 * hours) ≡ shareAfter cable hours
+    asked : hours ≤ 6 → shareAnswer (givenCable cable) (60 * hours) ≡ shareAfter cable hours
     unfolding shareAfter
     asked h = rw (ne-eqb hours 0 n, le-ltb 6 hours h, shareAfter)
 
@@ -46,7 +55,7 @@ share-requires c κs = search needs
 returns-3 : tie.Need-returns-3
 returns-3 c = (
   c .share .ensures .answer ∙ asked _ _ (c .before .before .if1 .left) (c .before .if2 .left),
-  said-in-millionths _ (c .share .ensures),
+  subst InMillionths (sym (c .share .ensures .answer)) (answer-in-millionths (givenCable (c .before .before .before .args .cable)) _),
 )
 
 pub share-after-spec : {M : Type 1} → statement M

@@ -1,7 +1,7 @@
 //! The built programs that pages speak of, and what `rating explain` must print.
 
 use crate::distance::{require, Held};
-use crate::program;
+use crate::program::Walks;
 use kechmowad::Condition;
 use std::path::Path;
 use std::process::Command;
@@ -10,7 +10,7 @@ use std::process::Command;
 pub trait Programs {
     /// What `rating explain` prints with these words.
     fn explain(&self, words: &[u8]) -> Result<Said, String>;
-    /// What `rise` prints of a sheet.
+    /// What `rise` prints of a sheet, and `rise_by_reader` too.
     fn rise(&self, sheet: &[u8]) -> Result<String, String>;
 }
 
@@ -24,11 +24,24 @@ pub struct Said {
 }
 
 /// The programs of a folder.
-pub struct Built<'a>(pub &'a Path);
+pub struct Built<'a> {
+    folder: &'a Path,
+    pub walks: Walks<'a>,
+}
+
+impl<'a> Built<'a> {
+    /// The programs of a folder, before their first question.
+    pub fn of(folder: &'a Path) -> Built<'a> {
+        Built {
+            folder,
+            walks: Walks::of(folder),
+        }
+    }
+}
 
 impl Programs for Built<'_> {
     fn explain(&self, words: &[u8]) -> Result<Said, String> {
-        let program = self.0.join("rating");
+        let program = self.folder.join("rating");
         let output = Command::new(&program)
             .arg("explain")
             .args(words.iter().map(u8::to_string))
@@ -42,7 +55,7 @@ impl Programs for Built<'_> {
     }
 
     fn rise(&self, sheet: &[u8]) -> Result<String, String> {
-        program::printed(&self.0.join("rise"), sheet)
+        self.walks.printed(sheet)
     }
 }
 

@@ -1,5 +1,7 @@
 //! Pages as they stand hold, and a page with one thing changed is told with its place.
 
+#[path = "../common/mod.rs"]
+mod common;
 mod programs;
 mod stub;
 

@@ -1,9 +1,9 @@
 //! Programs that explain a refusal otherwise, and programs of a folder.
 
 use super::stub::{explain, Fault, Stub};
-use super::{failed, page, root, INPUTS};
+use super::{common, failed, page, root, INPUTS};
 use compare::pages::{run, Built, Programs, Said};
-use std::path::{Path, PathBuf};
+use std::path::PathBuf;
 
 /// Each is wrong in a little: more or less is printed, another number or word, a
 /// complaint that is missing, or one that should not be.
@@ -75,16 +75,13 @@ fn no_place_explained() {
 }
 
 /// A folder with the programs as shell scripts, for a test of that name.
-fn folder(test: &str, rating: &str, rise: &str) -> PathBuf {
-    let folder = Path::new(env!("CARGO_TARGET_TMPDIR")).join(test);
-    std::fs::create_dir_all(&folder).expect("a folder");
-    for (name, script) in [("rating", rating), ("rise", rise)] {
-        let path = folder.join(name);
-        std::fs::write(&path, script).expect("a script");
-        let mode = std::os::unix::fs::PermissionsExt::from_mode(0o755);
-        std::fs::set_permissions(&path, mode).expect("a program");
-    }
-    folder
+fn folder(test: &str, rating: &str, rise: &str, reader: &str) -> PathBuf {
+    let scripts = [
+        ("rating", rating),
+        ("rise", rise),
+        ("rise_by_reader", reader),
+    ];
+    common::folder(test, &scripts)
 }
 
 /// A script that explains every number and place, up to 50.
@@ -116,17 +113,16 @@ esac
 
 #[test]
 fn programs_of_a_folder() {
-    let right = folder("right", &rating(), RISE);
-    assert_eq!(Built(&right).explain(&[2, 9]), Ok(explain(&[2, 9])));
-    assert_eq!(
-        Built(&right).rise(&[0; 42]),
-        Ok("refused 8 1\n".to_string())
-    );
+    let right = folder("right", &rating(), RISE, RISE);
+    let built = Built::of(&right);
+    assert_eq!(built.explain(&[2, 9]), Ok(explain(&[2, 9])));
+    assert_eq!(built.rise(&[0; 42]), Ok("refused 8 1\n".to_string()));
     assert!(run(&root(), &right));
     let other = rating().replace("hour 7: its", "hour 8: its");
-    assert!(!run(&root(), &folder("hour", &other, RISE)));
+    assert!(!run(&root(), &folder("hour", &other, RISE, RISE)));
     let other = RISE.replace("refused 8 1", "refused 8 2");
-    assert!(!run(&root(), &folder("rise", &rating(), &other)));
+    assert!(!run(&root(), &folder("rise", &rating(), &other, &other)));
+    assert!(!run(&root(), &folder("reader", &rating(), RISE, &other)));
     assert!(!run(&root(), &right.join("nowhere")));
     assert!(!run(&right, &right));
 }

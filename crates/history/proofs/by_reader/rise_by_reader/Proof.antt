@@ -14,17 +14,14 @@ check-header-requires c κs = search needs
 enum-known-checked : tie.Need-enum-known-checked
 enum-known-checked c = search needs
 
-enum-told : tie.Need-enum-told
-enum-told c = search needs
+enum-known-checked-2 : tie.Need-enum-known-checked-2
+enum-known-checked-2 c = search needs
 
-header-refusal-requires : tie.Need-header-refusal-requires
-header-refusal-requires c κs = rw (c .enum-told .given .1) tt
+accepted : (k : tie.After-known-told2) → checkedHeader (k .before .before .before .before .before .args .sheet .now) ≡ Accepted (k .before .checked2 .given .0 .0)
+accepted k = sym (k .before .before .before .check-header .ensures .answer) ∙ k .before .checked2 .given .1
 
-returns : tie.Need-returns
-returns c = said (header-refused _ (sym (c .before .before .before .check-header .ensures .answer) ∙ c .header-refusal .ensures))
-
-accepted : (k : tie.After-known-told) → checkedHeader (k .before .before .before .before .before .args .sheet .now) ≡ Accepted (k .before .checked .given .0 .0)
-accepted k = sym (k .before .before .before .check-header .ensures .answer) ∙ k .before .checked .given .1
+alone-requires : tie.Need-alone-requires
+alone-requires c κs = search needs
 
 record-read-requires : tie.Need-record-read-requires
 record-read-requires c κs = search needs
@@ -32,16 +29,24 @@ record-read-requires c κs = search needs
 enum-known-read : tie.Need-enum-known-read
 enum-known-read c = search needs
 
-enum-told-2 : tie.Need-enum-told-2
-enum-told-2 c = search needs
+enum-told : tie.Need-enum-told
+enum-told c = search needs
 
-returns-2 : tie.Need-returns-2
-returns-2 c = absurd (header-not-missing _ (accepted (c .before .before .before)) (sym (c .before .before .record-read .ensures .answer) ∙ c .enum-told2 .given .1))
+returns : tie.Need-returns
+returns c =
+    let r = c .before .before in
+    absurd (header-not-missing _ (accepted (r .before .before)) (r .before .alone .ensures .answer) (sym (r .record-read .ensures .answer) ∙ c .enum-told .given .1))
 
 reader-rise-requires : tie.Need-reader-rise-requires
 reader-rise-requires c κs =
-    let k = c .before .before in
-    begins-read _ (accepted (k .before .before .before)) (sym (k .before .before .record-read .ensures .answer) ∙ k .read .given .1)
+    let k = c .before in
+    let r = k .before .before in
+    begins-read _ (accepted (r .before .before)) (r .before .alone .ensures .answer) (sym (r .record-read .ensures .answer) ∙ k .read .given .1)
+
+returns-2 : tie.Need-returns-2
+returns-2 c =
+    let k = c .before in
+    said (header-refused _ (sym (k .before .before .check-header .ensures .answer) ∙ k .checked .given .1))
 
 returns-3 : tie.Need-returns-3
 returns-3 c = search needs
@@ -52,12 +57,12 @@ rise-by-reader-spec =
     (tie.spec
     check-header-requires
     enum-known-checked
-    enum-told
-    header-refusal-requires
-    returns
+    enum-known-checked-2
+    alone-requires
     record-read-requires
     enum-known-read
-    enum-told-2
-    returns-2
+    enum-told
+    returns
     reader-rise-requires
+    returns-2
     returns-3)

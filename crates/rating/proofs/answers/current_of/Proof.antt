@@ -18,15 +18,22 @@ array-read-current-3 c = search needs
 current-requires : tie.Need-current-requires
 current-requires c κs = search needs
 
-current-line-requires : tie.Need-current-line-requires
-current-line-requires c κs = search needs
+slice-aggregate-answer-line : tie.Need-slice-aggregate-answer-line
+slice-aggregate-answer-line c = search needs
+
+parts-requires : tie.Need-parts-requires
+parts-requires c κs = search needs
+
+answer-line-requires : tie.Need-answer-line-requires
+answer-line-requires c κs = search needs
 
 returns : tie.Need-returns
 returns c =
+    let answered = c .before .before .before in
     record {
-      answer = c .before .current .result;
-      said = rw (c .before .before .cable-of .ensures) at (c .before .current .ensures);
-      printed = c .current-line .ensures;
+      answer = answered .current .result;
+      said = rw (answered .before .cable-of .ensures) at (answered .current .ensures);
+      printed = rw (c .before .parts .ensures) at (c .answer-line .ensures);
     }
 
 pub current-of-spec : {M : Type 1} → statement M
@@ -38,5 +45,7 @@ current-of-spec =
     array-read-current-2
     array-read-current-3
     current-requires
-    current-line-requires
+    slice-aggregate-answer-line
+    parts-requires
+    answer-line-requires
     returns)

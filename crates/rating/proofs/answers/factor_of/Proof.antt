@@ -12,19 +12,33 @@ hours-from-requires c κs = search needs
 factor-requires : tie.Need-factor-requires
 factor-requires c κs = search needs
 
-factor-line-requires : tie.Need-factor-line-requires
-factor-line-requires c κs = search needs
+slice-aggregate-answer-line : tie.Need-slice-aggregate-answer-line
+slice-aggregate-answer-line c = search needs
+
+parts-requires : tie.Need-parts-requires
+parts-requires c κs = search needs
+
+answer-line-requires : tie.Need-answer-line-requires
+answer-line-requires c κs = search needs
 
 returns : tie.Need-returns
 returns c =
-    let h = c .before .before in
+    let answered = c .before .before .before in
+    let h = answered .before in
     record {
-      answer = c .before .factor .result;
-      said = record { hours = h .hours-from .result; are = h .hours-from .ensures; said = rw (h .before .cable-of .ensures) at (c .before .factor .ensures) };
-      printed = c .factor-line .ensures;
+      answer = answered .factor .result;
+      said = record { hours = h .hours-from .result; are = h .hours-from .ensures; said = rw (h .before .cable-of .ensures) at (answered .factor .ensures) };
+      printed = rw (c .before .parts .ensures) at (c .answer-line .ensures);
     }
 
 pub factor-of-spec : {M : Type 1} → statement M
 factor-of-spec =
     tie.close
-    (tie.spec cable-of-requires hours-from-requires factor-requires factor-line-requires returns)
+    (tie.spec
+    cable-of-requires
+    hours-from-requires
+    factor-requires
+    slice-aggregate-answer-line
+    parts-requires
+    answer-line-requires
+    returns)

@@ -12,18 +12,32 @@ array-read-share c = search needs
 share-requires : tie.Need-share-requires
 share-requires c κs = search needs
 
-share-line-requires : tie.Need-share-line-requires
-share-line-requires c κs = search needs
+slice-aggregate-answer-line : tie.Need-slice-aggregate-answer-line
+slice-aggregate-answer-line c = search needs
+
+parts-requires : tie.Need-parts-requires
+parts-requires c κs = search needs
+
+answer-line-requires : tie.Need-answer-line-requires
+answer-line-requires c κs = search needs
 
 returns : tie.Need-returns
 returns c =
+    let answered = c .before .before .before in
     record {
-      answer = c .before .share .result;
-      said = rw (c .before .before .cable-of .ensures) at (c .before .share .ensures);
-      printed = c .share-line .ensures;
+      answer = answered .share .result;
+      said = rw (answered .before .cable-of .ensures) at (answered .share .ensures);
+      printed = rw (c .before .parts .ensures) at (c .answer-line .ensures);
     }
 
 pub share-of-spec : {M : Type 1} → statement M
 share-of-spec =
     tie.close
-    (tie.spec cable-of-requires array-read-share share-requires share-line-requires returns)
+    (tie.spec
+    cable-of-requires
+    array-read-share
+    share-requires
+    slice-aggregate-answer-line
+    parts-requires
+    answer-line-requires
+    returns)

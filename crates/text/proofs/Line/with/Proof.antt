@@ -6,6 +6,7 @@ use native.Mathlib.Omega.{arith}
 use borrow.Author.Needs.{needs}
 use lib.ListN.{length}
 use lib.Seq.{paste, paste-zero, paste-suc, take-paste, take-length}
+use Rattle.text.specs.Writing.{lineRoom}
 use Rattle.text.proofs.Line.with.Statement.{statement}
 use Rattle.text.proofs.Line.with.Tie as tie
 
@@ -15,8 +16,8 @@ Inv-loop more start bytes₀ i₀ bytes i = (i ≤ length more) × (bytes ≡ pa
 abbrev μ-loop : tie.MeasureT-loop
 μ-loop more start bytes₀ i₀ bytes i = length more - i
 
-all-80 : (s : tie.Start Inv-loop μ-loop) → length (s .args .self .bytes) ≡ 80
-all-80 s = search needs
+all-room : (s : tie.Start Inv-loop μ-loop) → length (s .args .self .bytes) ≡ lineRoom
+all-room s = search needs
 
 loop-holds : tie.Need-loop-holds Inv-loop μ-loop
 loop-holds c =
@@ -43,7 +44,7 @@ loop-again c =
     let v = c .before .before .loop in
     let s = c .before .before .before .before in
     let line = s .args .self in
-    let room : line .length + v .i < length (line .bytes) = omega (arith, all-80 s) in
+    let room : line .length + v .i < length (line .bytes) = omega (arith, all-room s) in
     (omega arith, rw (v .inv .1, add-one (v .i)) (paste-suc (line .bytes) (line .length) (s .args .more .now) (v .i) 0 room (omega arith)))
 
 add-t14 : tie.Need-add-t14 Inv-loop μ-loop
@@ -56,7 +57,7 @@ returns c =
     let line = s .args .self in
     let more = s .args .more .now in
     let whole : v .i ≡ length more = omega arith in
-    let room : line .length ≤ length (line .bytes) = omega (arith, all-80 s) in
+    let room : line .length ≤ length (line .bytes) = omega (arith, all-room s) in
     record {
       text = rw (v .inv .1, whole, take-paste (line .bytes) (line .length) more (length more) room (omega arith), take-length more);
       longer = refl;

@@ -1,0 +1,4 @@
+pub mod Ranges
+pub mod Stated
+pub mod Apart
+pub mod Examples

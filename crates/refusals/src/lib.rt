@@ -1,0 +1,154 @@
+// What a refusal is: its number and its place. And the ranges that inputs are held to, with the first input outside its range.
+ghost use mathlib.Core.Path.{_≡_};
+ghost use Prim.Native.Nat.{_≤_};
+ghost use lib.ListN.{length};
+ghost use Rattle.refusals.specs.Ranges.{_to_, outside, rangesOf, firstOutside};
+ghost use mathlib.Core.List.{[], _∷_};
+ghost use lib.IntN.{pos};
+ghost use Rattle.refusals.specs.Stated.{placeKind, placeNumber, kindNumber, statedValues, statedRefusal};
+ghost use Rattle.refusals.specs.Apart.{partsOf, placeOf, refusalIn};
+use bounds::Bounds;
+
+// A field, a record, an hour or an input, by its number, or none.
+pub enum Place {
+    None,
+    Field(u8),
+    Record(u8),
+    Hour(u8),
+    Input(u8),
+}
+
+pub struct Refusal {
+    pub number: u8,
+    pub place: Place,
+}
+
+// The place's number, 0 for none.
+pub fn place_number(place: Place) -> u8
+    ensures { λ r. ⌜ r ≡ placeNumber place ⌝ }
+{
+    match place {
+        Place::None => 0,
+        Place::Field(number) => number,
+        Place::Record(number) => number,
+        Place::Hour(number) => number,
+        Place::Input(number) => number,
+    }
+}
+
+// The kinds of place by number, in document 01's order, and 0 for none.
+pub fn kind_number(place: Place) -> u8
+    ensures { λ r. ⌜ r ≡ kindNumber (placeKind place) ⌝ }
+{
+    match place {
+        Place::None => 0,
+        Place::Field(_) => 1,
+        Place::Record(_) => 2,
+        Place::Hour(_) => 3,
+        Place::Input(_) => 4,
+    }
+}
+
+// What an answer states: the refusal's number, 0 for none, the kind and the number of its place, how many values there are, and the values.
+pub struct Parts {
+    pub number: u8,
+    pub kind: u8,
+    pub place: u8,
+    pub count: u8,
+    pub first: i64,
+    pub second: i64,
+}
+
+// Of an answer that gives a pair.
+pub fn of_pair(pair: Bounds) -> Parts
+    ensures { λ r. ⌜ r ≡ partsOf (statedValues (pair .low ∷ pair .high ∷ [])) ⌝ }
+{
+    Parts {
+        number: 0,
+        kind: 0,
+        place: 0,
+        count: 2,
+        first: pair.low,
+        second: pair.high,
+    }
+}
+
+// Of an answer that gives one value.
+pub fn of_value(value: u32) -> Parts
+    ensures { λ r. ⌜ r ≡ partsOf (statedValues (pos value ∷ [])) ⌝ }
+{
+    Parts {
+        number: 0,
+        kind: 0,
+        place: 0,
+        count: 1,
+        first: numbers::wide(value),
+        second: 0,
+    }
+}
+
+// Of an answer that refuses.
+pub fn of_refusal(refusal: Refusal) -> Parts
+    ensures { λ r. ⌜ r ≡ partsOf (statedRefusal refusal) ⌝ }
+{
+    let place = refusal.place;
+    Parts {
+        number: refusal.number,
+        kind: kind_number(place),
+        place: place_number(place),
+        count: 0,
+        first: 0,
+        second: 0,
+    }
+}
+
+// The refusal in the parts of an answer that refuses.
+pub fn refusal_in(parts: Parts) -> Refusal
+    ensures { λ r. ⌜ r ≡ refusalIn parts ⌝ }
+{
+    Refusal {
+        number: parts.number,
+        place: place_of(parts.kind, parts.place),
+    }
+}
+
+fn place_of(kind: u8, number: u8) -> Place
+    ensures { λ r. ⌜ r ≡ placeOf kind number ⌝ }
+{
+    if kind == 1 {
+        return Place::Field(number);
+    }
+    if kind == 2 {
+        return Place::Record(number);
+    }
+    if kind == 3 {
+        return Place::Hour(number);
+    }
+    if kind == 4 {
+        return Place::Input(number);
+    }
+    Place::None
+}
+
+// Whether x lies outside low to high.
+pub fn outside(x: u32, low: u32, high: u32) -> bool
+    ensures { λ r. ⌜ r ≡ outside (low to high) x ⌝ }
+{
+    x < low || high < x
+}
+
+// The number of the first value outside its range, counted from 1, or 0; a range is its least and its greatest value.
+pub fn first_outside(values: &[u32], ranges: &[[u32; 2]]) -> u8
+    requires { ⌜ (length (now ranges) ≡ length (now values)) × (length (now values) ≤ 255) ⌝ }
+    ensures { λ r. ⌜ r ≡ firstOutside 1 (rangesOf (now (ranges .entry))) (now (values .entry)) ⌝ }
+{
+    let mut i = 0;
+    while i < values.len() {
+        let range = ranges[i];
+        if outside(values[i], range[0], range[1]) {
+            return (i + 1) as u8;
+        }
+        i += 1;
+    }
+    0
+}
