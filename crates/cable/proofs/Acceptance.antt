@@ -10,7 +10,7 @@ use Rattle.refusals.proofs.Ranges.{passed-within, within-passes, Each, none-out
 use Rattle.cable.specs.Checks.{ranges, fields, outsideField, checked, inUse}
 use Rattle.cable.specs.Stated.{statedCheck}
 use Rattle.exact.specs.Share.{none}
-use Rattle.cable.specs.Group.{defaultDiffusivity, Group, accepted, refused, alone, afterCheck, givenCable}
+use Rattle.cable.specs.Group.{Group, only, accepted, refused, alone, afterCheck, givenCable}
 use Rattle.cable.specs.InRange.{Acceptable, Sound}
 use Rattle.cable.specs.declared.Cable.{Cable}
 use Rattle.refusals.specs.declared.Refusal.{Refusal}
@@ -38,56 +38,64 @@ both-passed true u f g c p q e = absurd (omega arith)
 both-passed false true f g c p q e = absurd (omega arith)
 both-passed false false f g c p q e = (refl, refl)
 
+-- with any default that is in the range of field 3
+module _ (default : ℕ) (least : 100 ≤ default) (most : default ≤ 2000) where
+  in-use-acceptable : (c : Cable) → statedCheck (checked c) .number ≡ 0 → Acceptable (only (inUse default c))
+  unfolding checked outsideField inUse
+  in-use-acceptable c e =
+      let both = both-passed (ltb 0 (outsideField c)) (ltb (c .«fast_rate») (c .«slow_rate»)) _ _ c (omega arith) (omega arith) e in
+      let i = none-outside 1 ranges (fields c) (omega arith) (omega (arith, ltb-false 0 (outsideField c) (both .0))) in
+      let d = passed-within 100 1500 (c .diameter) (i .0) in
+      let l = passed-within 300 5000 (c .depth) (i .1 .0) in
+      let s = used-within 100 2000 default (c .diffusivity) least most (eqb (c .diffusivity) 0) refl (i .1 .1 .0) in
+      let k = passed-within 0 1000000 (c .«surface_ratio») (i .1 .1 .1 .0) in
+      let w = passed-within 0 1000000 (c .«fast_weight») (i .1 .1 .1 .1 .0) in
+      let fast = passed-within 1 100000 (c .«fast_rate») (i .1 .1 .1 .1 .1 .0) in
+      let slow = passed-within 1 100000 (c .«slow_rate») (i .1 .1 .1 .1 .1 .1 .0) in
+      let rated = passed-within 50 2000 (c .rated) (i .1 .1 .1 .1 .1 .1 .1 .0) in
+      record {
+        numbers =
+            record {
+              d-from = d .0;
+              d-to = d .1;
+              l-from = l .0;
+              l-to = l .1;
+              s-from = s .0;
+              s-to = s .1;
+              k-to = k .1;
+              w-to = w .1;
+              fast-from = fast .0;
+              fast-to = fast .1;
+              slow-from = slow .0;
+              slow-to = ltb-false (c .«fast_rate») (c .«slow_rate») (both .1);
+            };
+        beside = none;
+        rated-from = rated .0;
+        rated-to = rated .1;
+      }
+
+  acceptable-in-use : (c : Cable) → Acceptable (only (inUse default c)) → checked c ≡ Accepted c
+  unfolding checked outsideField inUse
+  acceptable-in-use c a =
+      let n = a .numbers in
+      let i : Each ranges (fields c) =
+      within-passes 100 1500 (c .diameter) (n .d-from) (n .d-to)
+      and within-passes 300 5000 (c .depth) (n .l-from) (n .l-to)
+      and used-passes 100 2000 default (c .diffusivity) least most (eqb (c .diffusivity) 0) refl (n .s-from) (n .s-to)
+      and within-passes 0 1000000 (c .«surface_ratio») (omega arith) (n .k-to)
+      and within-passes 0 1000000 (c .«fast_weight») (omega arith) (n .w-to)
+      and within-passes 1 100000 (c .«fast_rate») (n .fast-from) (n .fast-to)
+      and within-passes 1 100000 (c .«slow_rate») (n .slow-from) (omega (arith, n .slow-to, n .fast-to))
+      and within-passes 50 2000 (c .rated) (a .rated-from) (a .rated-to)
+      and tt
+      in
+      simp (each-passes 1 ranges (fields c) i, le-ltb _ _ (n .slow-to))
+
 pub accepted-in-range : (c : Cable) → statedCheck (checked c) .number ≡ 0 → Acceptable (alone c)
-unfolding checked outsideField inUse
-accepted-in-range c e =
-    let both = both-passed (ltb 0 (outsideField c)) (ltb (c .«fast_rate») (c .«slow_rate»)) _ _ c (omega arith) (omega arith) e in
-    let i = none-outside 1 ranges (fields c) (omega arith) (omega (arith, ltb-false 0 (outsideField c) (both .0))) in
-    let d = passed-within 100 1500 (c .diameter) (i .0) in
-    let l = passed-within 300 5000 (c .depth) (i .1 .0) in
-    let s = used-within 100 2000 defaultDiffusivity (c .diffusivity) (omega arith) (omega arith) (eqb (c .diffusivity) 0) refl (i .1 .1 .0) in
-    let k = passed-within 0 1000000 (c .«surface_ratio») (i .1 .1 .1 .0) in
-    let w = passed-within 0 1000000 (c .«fast_weight») (i .1 .1 .1 .1 .0) in
-    let fast = passed-within 1 100000 (c .«fast_rate») (i .1 .1 .1 .1 .1 .0) in
-    let slow = passed-within 1 100000 (c .«slow_rate») (i .1 .1 .1 .1 .1 .1 .0) in
-    let rated = passed-within 50 2000 (c .rated) (i .1 .1 .1 .1 .1 .1 .1 .0) in
-    record {
-      numbers =
-          record {
-            d-from = d .0;
-            d-to = d .1;
-            l-from = l .0;
-            l-to = l .1;
-            s-from = s .0;
-            s-to = s .1;
-            k-to = k .1;
-            w-to = w .1;
-            fast-from = fast .0;
-            fast-to = fast .1;
-            slow-from = slow .0;
-            slow-to = ltb-false (c .«fast_rate») (c .«slow_rate») (both .1);
-          };
-      beside = none;
-      rated-from = rated .0;
-      rated-to = rated .1;
-    }
+accepted-in-range c e = in-use-acceptable _ (omega arith) (omega arith) c e
 
 pub in-range-accepted : (c : Cable) → Acceptable (alone c) → checked c ≡ Accepted c
-unfolding checked outsideField inUse
-in-range-accepted c a =
-    let n = a .numbers in
-    let i : Each ranges (fields c) =
-    within-passes 100 1500 (c .diameter) (n .d-from) (n .d-to)
-    and within-passes 300 5000 (c .depth) (n .l-from) (n .l-to)
-    and used-passes 100 2000 defaultDiffusivity (c .diffusivity) (omega arith) (omega arith) (eqb (c .diffusivity) 0) refl (n .s-from) (n .s-to)
-    and within-passes 0 1000000 (c .«surface_ratio») (omega arith) (n .k-to)
-    and within-passes 0 1000000 (c .«fast_weight») (omega arith) (n .w-to)
-    and within-passes 1 100000 (c .«fast_rate») (n .fast-from) (n .fast-to)
-    and within-passes 1 100000 (c .«slow_rate») (n .slow-from) (omega (arith, n .slow-to, n .fast-to))
-    and within-passes 50 2000 (c .rated) (a .rated-from) (a .rated-to)
-    and tt
-    in
-    simp (each-passes 1 ranges (fields c) i, le-ltb _ _ (n .slow-to))
+in-range-accepted c a = acceptable-in-use _ (omega arith) (omega arith) c a
 
 -- an accepted cable comes back as it is
 accepted-same : (t u : Bool) (f g : Refusal) (c d : Cable) → cond t (Refused f) (cond u (Refused g) (Accepted c)) ≡ Accepted d → d ≡ c

@@ -11,7 +11,7 @@ use Rattle.sheet.specs.Header.{cableOf, checkedHeader}
 use Rattle.sheet.specs.Records.{recordOf, recordAt, checkedRecord}
 use Rattle.sheet.specs.Chain.{chainFrom}
 use Rattle.history.specs.Rise.{sumOf, riseOf}
-use Rattle.history.specs.Answer.{riseAnswer}
+use Rattle.history.specs.Answer.{historyOf, riseAnswer}
 use Rattle.cycle.specs.Answer.{factorFrom}
 use Rattle.emergency.specs.Answer.{currentFrom, currentOf}
 use Rattle.cases.specs.Table.{Hold, all, _⨾_, table}

@@ -16,7 +16,7 @@ use Rattle.sheet.specs.Header.{cableOf, checkedHeader}
 use Rattle.sheet.specs.Records.{recordOf, recordAt, checkedRecord}
 use Rattle.sheet.specs.Chain.{Step, chainFrom}
 use Rattle.history.specs.Rise.{sumOf, riseOf}
-use Rattle.history.specs.Answer.{riseAnswer}
+use Rattle.history.specs.Answer.{historyOf, riseAnswer}
 use Rattle.cases.specs.Table.{Meant, gives, rise, sheet, values, cableA}
 
 pub none-of : (b : Bounds) → mulB (pointB (pos 0)) b ≡ pointB (pos 0)

@@ -15,7 +15,7 @@ use Rattle.refusals.specs.declared.Place.{Place}
 use Rattle.refusals.specs.declared.Place.the-variants.{None, Field, Record, Hour, Input}
 use Rattle.share.specs.Answer.{shareAnswer, statedShare}
 use Rattle.sheet.specs.Layout.{wrongLength}
-use Rattle.history.specs.Answer.{riseAnswer, statedRise}
+use Rattle.history.specs.Answer.{historyOf, riseAnswer, statedRise}
 use Rattle.cycle.specs.Answer.{factorAnswer, statedFactor}
 use Rattle.emergency.specs.Answer.{currentAnswer, statedCurrent}
 
@@ -34,7 +34,7 @@ pub data Question : Type 0 where
 -- in the paper's numbers
 abbrev pub answer : Question → Stated
 answer (share c minutes) = statedShare (shareAnswer (givenCable c) minutes)
-answer (rise sheet) = statedRise (riseAnswer sheet)
+answer (rise sheet) = statedRise (riseAnswer (historyOf sheet))
 answer (factor c hours) = statedFactor (factorAnswer (givenCable c) hours)
 answer (current c h r minutes) = statedCurrent (currentAnswer (givenCable c) h r minutes)
 

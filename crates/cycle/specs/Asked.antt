@@ -11,7 +11,7 @@ use Rattle.cable.specs.Group.{only}
 use Rattle.cable.specs.InRange.{Acceptable}
 use Rattle.cable.specs.declared.Cable.{Cable}
 use Rattle.cycle.specs.Day.{dayHours, highestLoad, squaredLoads}
-use Rattle.cycle.specs.Heating.{commonDivisor}
+use Rattle.cycle.specs.Heating.{commonDivisor, million}
 
 -- An accepted cable in use, and check 11 passed.
 pub record Ready (used : Cable) (hours : List ℕ) : Type 0 where
@@ -29,7 +29,7 @@ mostDivisor = dayHours * (65535 * 65535)
 
 -- Shares of at most 1,000,000 millionths in size, and check 11 passed.
 pub record Shared (shares : List Bounds) (hours : List ℕ) : Type 0 where
-  pub sized : (i : ℕ) → Sized 1000000 (pairsOf shares (suc i))
+  pub sized : (i : ℕ) → Sized million (pairsOf shares (suc i))
   pub loaded : 0 < highestLoad hours
 
 -- An hour of the day, and the mean of all 24 in its common units.

@@ -52,9 +52,13 @@ unfoldable pub gatheredSum : List ℕ → ℕ → ℤ → (ℕ → ℤ) → ℕ 
 gatheredSum hours hour one G zero = pos (relativeLoad hours hour heatingHours) *ℤ one
 gatheredSum hours hour one G (suc i) = gatheredSum hours hour one G i +ℤ (gatheredLoad hours hour i *ℤ G (suc i))
 
+-- a whole share, in millionths
+abbrev pub million : ℕ
+million = 1000000
+
 -- "take high where that is positive and low where negative": the product of a number and a pair does
 unfoldable pub gatheredBounds : List ℕ → ℕ → (ℕ → Bounds) → ℕ → Bounds
-gatheredBounds hours hour pairs zero = pointB (pos (relativeLoad hours hour heatingHours * 1000000))
+gatheredBounds hours hour pairs zero = pointB (pos (relativeLoad hours hour heatingHours * million))
 gatheredBounds hours hour pairs (suc i) =
     addB (gatheredBounds hours hour pairs i) (mulB (pointB (gatheredLoad hours hour i)) (pairs (suc i)))
 

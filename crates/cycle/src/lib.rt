@@ -49,7 +49,7 @@ const MOST_HEATING: i64 = 1000000000000;
 // By how many thousandths a cable's rated current may be multiplied where the load goes through `hours` each day: the largest whole m, at most 5,000,
 // with m² times the heating sum at most 10^12, at the hour of the day at which that sum is largest. With T the largest of the 24 exact sums, in
 // millionths, m²·T is at most 10^12; and if m is below 5,000, each larger whole number, squared and times T + 301, is above 10^12.
-pub fn factor(cable: Cable, hours: [u16; 24]) -> FactorAnswer
+pub fn factor(cable: Cable, hours: [u16; DAY_HOURS]) -> FactorAnswer
     ensures { λ r. ⌜ FactorSaid (givenCable cable) hours r ⌝ }
 {
     let checked = cable::given(cable);
@@ -60,7 +60,7 @@ pub fn factor(cable: Cable, hours: [u16; 24]) -> FactorAnswer
 }
 
 // The factor of an accepted cable in use: refusal 10, refusal 11, or the factor.
-pub fn factor_of(used: Cable, hours: [u16; 24]) -> FactorAnswer
+pub fn factor_of(used: Cable, hours: [u16; DAY_HOURS]) -> FactorAnswer
     requires { ⌜ Acceptable (only used) ⌝ }
     ensures { λ r. ⌜ r ≡ factorFrom (hourPair (only used)) hours ⌝ }
 {
@@ -91,7 +91,7 @@ pub fn parts(answer: FactorAnswer) -> Parts
 }
 
 // The factor of a day. The six shares, at hours of 60 minutes, are worked out once for all 24 hours.
-fn factor_of_day(used: Cable, hours: [u16; 24]) -> FactorAnswer
+fn factor_of_day(used: Cable, hours: [u16; DAY_HOURS]) -> FactorAnswer
     requires { ⌜ Ready used hours ⌝ }
     ensures { λ r. ⌜ r ≡ Factor (largestFactor (heatingSum (hourPair (only used)) hours (referenceHour (hourPair (only used)) hours))) ⌝ }
 {
@@ -108,7 +108,7 @@ fn factor_of_day(used: Cable, hours: [u16; 24]) -> FactorAnswer
 }
 
 // The heating sum of the hottest hour: the one at which it is largest. The mean and the divisor are those of all 24 hours.
-fn largest_sum(shares: [Bounds; HEATING_HOURS], hours: [u16; 24]) -> Bounds
+fn largest_sum(shares: [Bounds; HEATING_HOURS], hours: [u16; DAY_HOURS]) -> Bounds
     requires { ⌜ Shared shares hours ⌝ }
     ensures { λ r. ⌜ (r ≡ heatingBounds (pairsOf shares) hours (referenceHour (pairsOf shares) hours)) × (Sized mostSum r) ⌝ }
 {
@@ -127,7 +127,7 @@ fn largest_sum(shares: [Bounds; HEATING_HOURS], hours: [u16; 24]) -> Bounds
 // The heating sum for a reference hour. What multiplies each share is gathered first; the sum is divided, and so rounded, once.
 fn heating_sum(
     shares: [Bounds; HEATING_HOURS],
-    hours: [u16; 24],
+    hours: [u16; DAY_HOURS],
     hour: usize,
     mean: u64,
     divisor: u64,
@@ -143,7 +143,7 @@ fn heating_sum(
 }
 
 // The first hour above 4,000 A, or 24.
-fn first_above(hours: [u16; 24]) -> usize
+fn first_above(hours: [u16; DAY_HOURS]) -> usize
     ensures { λ r. ⌜ r ≡ firstAbove 0 hours ⌝ }
 {
     let mut k: usize = 0;
@@ -156,7 +156,7 @@ fn first_above(hours: [u16; 24]) -> usize
     k
 }
 
-fn highest_load(hours: [u16; 24]) -> u16
+fn highest_load(hours: [u16; DAY_HOURS]) -> u16
     ensures { λ r. ⌜ r ≡ highestLoad hours ⌝ }
 {
     let mut highest: u16 = 0;
@@ -169,7 +169,7 @@ fn highest_load(hours: [u16; 24]) -> u16
 }
 
 // What multiplies G(i + 1).
-fn gathered_load(hours: [u16; 24], hour: usize, i: usize, mean: u64) -> Bounds
+fn gathered_load(hours: [u16; DAY_HOURS], hour: usize, i: usize, mean: u64) -> Bounds
     requires { ⌜ (AtHour hours hour mean) × (i < heatingHours) ⌝ }
     ensures { λ r. ⌜ r ≡ pointB (gatheredLoad hours hour i) ⌝ }
 {
@@ -179,7 +179,7 @@ fn gathered_load(hours: [u16; 24], hour: usize, i: usize, mean: u64) -> Bounds
 }
 
 // The load i hours before an hour, squared, for i below 6, and at 6 the mean, times 24 each.
-fn relative_load(hours: [u16; 24], hour: usize, i: usize, mean: u64) -> u64
+fn relative_load(hours: [u16; DAY_HOURS], hour: usize, i: usize, mean: u64) -> u64
     requires { ⌜ (AtHour hours hour mean) × (i ≤ heatingHours) ⌝ }
     ensures { λ r. ⌜ (r ≡ relativeLoad hours hour i) × (r ≤ mostDivisor) ⌝ }
 {
@@ -191,7 +191,7 @@ fn relative_load(hours: [u16; 24], hour: usize, i: usize, mean: u64) -> u64
     }
 }
 
-fn squared_loads(hours: [u16; 24]) -> u64
+fn squared_loads(hours: [u16; DAY_HOURS]) -> u64
     ensures { λ r. ⌜ (r ≡ squaredLoads hours dayHours) × (r ≤ mostDivisor) ⌝ }
 {
     let mut sum: u64 = 0;
@@ -201,7 +201,7 @@ fn squared_loads(hours: [u16; 24]) -> u64
     sum
 }
 
-fn common_divisor(hours: [u16; 24]) -> u64
+fn common_divisor(hours: [u16; DAY_HOURS]) -> u64
     ensures { λ r. ⌜ DivisorOf hours r ⌝ }
 {
     (DAY_HOURS as u64) * numbers::square(highest_load(hours) as u32)

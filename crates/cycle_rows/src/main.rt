@@ -7,6 +7,8 @@ use cycle::FactorAnswer;
 use emergency::CurrentAnswer;
 use libc::STDOUT_FILENO;
 
+const DAY_HOURS: usize = 24;
+
 // The range of the whole numbers that the reference allows.
 struct Range {
     low: u32,
@@ -14,9 +16,9 @@ struct Range {
 }
 
 // The day with other amperes in the hours from `from` to `last`.
-fn with_hours(hours: [u16; 24], from: usize, last: usize, amperes: u16) -> [u16; 24] {
+fn with_hours(hours: [u16; DAY_HOURS], from: usize, last: usize, amperes: u16) -> [u16; DAY_HOURS] {
     let mut day = hours;
-    for k in 0..24 {
+    for k in 0..DAY_HOURS {
         if from <= k && k <= last {
             day[k] = amperes;
         }
@@ -25,23 +27,23 @@ fn with_hours(hours: [u16; 24], from: usize, last: usize, amperes: u16) -> [u16;
 }
 
 // 100 A, 300 A from hour 8 to 17, 200 A afterwards.
-fn plateau() -> [u16; 24] {
-    with_hours(with_hours([100; 24], 8, 17, 300), 18, 23, 200)
+fn plateau() -> [u16; DAY_HOURS] {
+    with_hours(with_hours([100; DAY_HOURS], 8, 17, 300), 18, 23, 200)
 }
 
 // 50 A, 310 A in hour 8, 300 A from hour 14 to 21.
-fn morning_peak() -> [u16; 24] {
-    with_hours(with_hours([50; 24], 8, 8, 310), 14, 21, 300)
+fn morning_peak() -> [u16; DAY_HOURS] {
+    with_hours(with_hours([50; DAY_HOURS], 8, 8, 310), 14, 21, 300)
 }
 
 // 200 A, 400 A in hour 7, 390 A from hour 17 to 22.
-fn evening_day() -> [u16; 24] {
-    with_hours(with_hours([200; 24], 7, 7, 400), 17, 22, 390)
+fn evening_day() -> [u16; DAY_HOURS] {
+    with_hours(with_hours([200; DAY_HOURS], 7, 7, 400), 17, 22, 390)
 }
 
 // 400 A from hour 21 to hour 2, nothing else.
-fn night_day() -> [u16; 24] {
-    with_hours(with_hours([0; 24], 21, 23, 400), 0, 2, 400)
+fn night_day() -> [u16; DAY_HOURS] {
+    with_hours(with_hours([0; DAY_HOURS], 21, 23, 400), 0, 2, 400)
 }
 
 // Cable A of document 01, with a rated current.
@@ -99,7 +101,7 @@ fn print_place(value: u32, range: Range) {
     }
 }
 
-fn factor_row(name: &[u8], cable: Cable, hours: [u16; 24], range: Range) {
+fn factor_row(name: &[u8], cable: Cable, hours: [u16; DAY_HOURS], range: Range) {
     io::write_all(STDOUT_FILENO, name);
     let answer = cycle::factor(cable, hours);
     let FactorAnswer::Factor(m) = answer else {
@@ -120,13 +122,18 @@ fn current_row(name: &[u8], cable: Cable, h: u32, r: u32, minutes: u32, range: R
 }
 
 fn factor_rows() {
-    factor_row(b"F01", cable_a(400), [200; 24], one(1000));
-    factor_row(b"F01 false below", cable_a(400), [200; 24], one(999));
-    factor_row(b"F01 false above", cable_a(400), [200; 24], one(1001));
+    factor_row(b"F01", cable_a(400), [200; DAY_HOURS], one(1000));
+    factor_row(b"F01 false below", cable_a(400), [200; DAY_HOURS], one(999));
+    factor_row(
+        b"F01 false above",
+        cable_a(400),
+        [200; DAY_HOURS],
+        one(1001),
+    );
     factor_row(
         b"F03",
         cable_a(400),
-        with_hours([0; 24], 7, 7, 400),
+        with_hours([0; DAY_HOURS], 7, 7, 400),
         one(1675),
     );
     factor_row(b"F05", cable_a(400), plateau(), one(1096));
@@ -140,7 +147,7 @@ fn factor_rows() {
     factor_row(
         b"F09",
         cable_f09(),
-        with_hours([10; 24], 0, 1, 4000),
+        with_hours([10; DAY_HOURS], 0, 1, 4000),
         one(2048),
     );
     factor_row(b"evening", cable_a(400), evening_day(), one(1147));

@@ -16,7 +16,7 @@ use Rattle.share.specs.Promises.{widthOf, exactShare}
 use Rattle.share.specs.Answer.{shareFrom}
 use Rattle.share.specs.declared.ShareAnswer.{ShareAnswer}
 use Rattle.share.specs.declared.ShareAnswer.the-variants as S
-use Rattle.emergency.specs.Certifying.{largestCertified}
+use Rattle.emergency.specs.Certifying.{steadyLimit, largestCertified}
 use Rattle.emergency.specs.Exact.{CurrentDistance}
 use Rattle.emergency.specs.declared.CurrentAnswer.{CurrentAnswer}
 use Rattle.emergency.specs.declared.CurrentAnswer.the-variants.{Current, Refused}
@@ -33,7 +33,7 @@ refused13 = record { number = 13; place = None }
 
 -- "h² above 100·r"
 abbrev pub tooHot : ℕ → ℕ → Bool
-tooHot h r = ltb (100 * r) (h * h)
+tooHot h r = ltb (steadyLimit r) (h * h)
 
 -- 12, 13 and the current, from the rated current and the share: "g being the high share"
 unfoldable pub currentFrom : ℕ → ℕ → ℕ → Bounds → CurrentAnswer

@@ -14,9 +14,17 @@ loadChange rated h i = pos (10000 * (i * i)) -ℤ pos (h * h * (rated * rated))
 abbrev pub addedRise : ℕ → ℕ → ℤ → ℕ → ℤ
 addedRise rated h g i = loadChange rated h i *ℤ g
 
+-- a whole share, in millionths
+abbrev pub million : ℕ
+million = 1000000
+
+-- "100·r": in percent², as h² is, the squared load that holds the rise at the limit for ever
+abbrev pub steadyLimit : ℕ → ℕ
+steadyLimit r = 100 * r
+
 -- "(100·r − h²) · rated² · 1,000,000": what the preload leaves up to the limit
 abbrev pub roomToLimit : ℕ → ℕ → ℕ → ℤ
-roomToLimit rated h r = (pos (100 * r) -ℤ pos (h * h)) *ℤ pos (rated * rated * 1000000)
+roomToLimit rated h r = (pos (steadyLimit r) -ℤ pos (h * h)) *ℤ pos (rated * rated * million)
 
 -- "A whole ampere i is certified when" the one is at most the other
 pub record Certified (rated h r : ℕ) (g : ℤ) (i : ℕ) : Type 0 where

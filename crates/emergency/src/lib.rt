@@ -8,7 +8,7 @@ ghost use Rattle.cable.specs.Group.{only, givenCable};
 ghost use Rattle.cable.specs.InRange.{Acceptable};
 ghost use Rattle.distance.specs.Promised.{Millionths};
 ghost use Rattle.emergency.specs.Asked.{InRange};
-ghost use Rattle.emergency.specs.Certifying.{certified, largestCertified, mostCurrent};
+ghost use Rattle.emergency.specs.Certifying.{steadyLimit, certified, largestCertified, mostCurrent};
 ghost use Rattle.emergency.specs.Answer.{currentOf, statedCurrent, CurrentSaid};
 use bounds::Bounds;
 use cable::Cable;
@@ -93,7 +93,7 @@ pub fn parts(answer: CurrentAnswer) -> Parts
 
 // By bisection: low is certified and high is not, or is past the end.
 fn largest_certified(rated: u32, h: u32, r: u32, g: u64) -> u32
-    requires { ⌜ (InRange rated h r g) × (h * h ≤ 100 * r) ⌝ }
+    requires { ⌜ (InRange rated h r g) × (h * h ≤ steadyLimit r) ⌝ }
     ensures { λ i. ⌜ i ≡ largestCertified rated h r (pos g) ⌝ }
 {
     let mut low: u32 = 0;

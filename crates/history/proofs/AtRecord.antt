@@ -10,26 +10,24 @@ use Rattle.bounds.specs.Promises.{Sized, largest, DividedRoom}
 use Rattle.bounds.specs.declared.Bounds.{Bounds}
 use Rattle.bounds.proofs.Sizes.{sized-more, add-sized}
 use Rattle.refusals.specs.declared.Refusal.{Refusal}
-use Rattle.cable.specs.Group.{Group, only}
+use Rattle.cable.specs.Group.{Group, only, alone}
 use Rattle.cable.specs.InRange.{Acceptable}
-use Rattle.cable.specs.Stated.{statedCheck}
 use Rattle.cable.specs.declared.Cable.{Cable}
-use Rattle.cable.proofs.Acceptance.{accepted-in-range}
 use Rattle.share.specs.Pair.{sharePair}
 use Rattle.share.specs.Answer.{shareFrom}
 use Rattle.share.specs.declared.ShareAnswer.the-variants as S
 use Rattle.share.proofs.Answers.{share-given}
 use Rattle.share.proofs.Promises.{share-pair-range, answered-pair}
-use Rattle.sheet.specs.Header.{mostAmperes}
+use Rattle.sheet.specs.Header.{mostAmperes, asGiven}
 use Rattle.sheet.specs.Records.{mostMinutes, beforeFirst, recordAt, checkedRecord}
 use Rattle.sheet.specs.declared.LoadRecord.{LoadRecord}
 use Rattle.sheet.specs.declared.RecordRead.{RecordRead}
 use Rattle.sheet.specs.declared.RecordCheck.{RecordCheck}
 use Rattle.sheet.specs.declared.RecordCheck.the-variants as K
-use Rattle.sheet.proofs.HeaderChecks.{accepted-header}
+use Rattle.sheet.proofs.HeaderChecks.{accepted-header, header-sound}
 use Rattle.sheet.proofs.RecordChecks.{accepted-record}
 use Rattle.history.specs.Rise.{changeOf, stepHeat, startHeat}
-use Rattle.history.specs.Answer.{riseAnswer}
+use Rattle.history.specs.Answer.{historyOf, riseAnswer}
 use Rattle.history.specs.Walk.{beginAt, nextAt, afterRead, turnOf, endOf, stepMost, Turning, StepTo, Begins}
 use Rattle.history.specs.declared.Reached.{Reached}
 use Rattle.history.specs.declared.RiseAnswer.the-variants.{Rise, Refused}
@@ -90,7 +88,7 @@ step-to before read e = let a = accepted-record before read e in record { minute
 
 pub record AtRecord (s : List ℕ) (used : Cable) (at : Reached) : Type 0 where
   pub turning : Turning used at
-  pub answer : rest (sharePair (only used)) (used .rated) s (at .last) (at .sum) ≡ riseAnswer s
+  pub answer : rest (sharePair (only used)) (used .rated) s (at .last) (at .sum) ≡ riseAnswer (historyOf s)
 
 -- a walk begins with the header's own record and its current's part
 module _ {s : List ℕ} {used : Cable} {first : LoadRecord} (b : Begins s used first) where
@@ -101,7 +99,7 @@ module _ {s : List ℕ} {used : Cable} {first : LoadRecord} (b : Begins s used f
   first-minutes = ap (λ r. r .minutes) (b .record-0)
 
   used-acceptable : Acceptable (only used)
-  used-acceptable = subst Acceptable (sym (b .used-is)) (accepted-in-range (b .cable) (ap (λ a. statedCheck a .number) (accepted-header s (b .header) .cable-accepted)))
+  used-acceptable = subst Acceptable (sym (b .used-is)) (header-sound s (alone (b .cable)) (ap asGiven (b .header)))
 
   pub at-start : {at : Reached} → at ≡ beginAt first → AtRecord s used at
   at-start e =
@@ -116,11 +114,11 @@ module _ {s : List ℕ} {used : Cable} {first : LoadRecord} (b : Begins s used f
             };
         answer =
             ap (λ r. rest (sharePair (only used)) (used .rated) s r (startHeat (first .amperes))) (b .record-0)
-            ∙ subst (λ (g : Group). rest (sharePair g) (g .cable .rated) s (beforeFirst (first .amperes) (first .next)) (startHeat (first .amperes)) ≡ riseAnswer s) (sym (b .used-is)) (rest-of-all s (b .header));
+            ∙ subst (λ (g : Group). rest (sharePair g) (g .cable .rated) s (beforeFirst (first .amperes) (first .next)) (startHeat (first .amperes)) ≡ riseAnswer (historyOf s)) (sym (b .used-is)) (rest-of-all s (b .header));
       })
 
 module _ {s : List ℕ} {used : Cable} {at : Reached} (a : AtRecord s used at) where
-  pub chain-ended : at .last .next ≡ 0 → {b : Bounds} → b ≡ endOf used at → Rise b ≡ riseAnswer s
+  pub chain-ended : at .last .next ≡ 0 → {b : Bounds} → b ≡ endOf used at → Rise b ≡ riseAnswer (historyOf s)
   chain-ended z e = ap Rise e ∙ rest-ends (sharePair (only used)) (used .rated) s (at .last) (at .sum) z ∙ a .answer
 
   module _ (z : at .last .next ≡ 0 → ⊥) where
@@ -128,12 +126,12 @@ module _ {s : List ℕ} {used : Cable} {at : Reached} (a : AtRecord s used at) w
     readHere = recordAt s (at .last .next)
 
     -- where the turn leads: on to a later record, or out with the sheet's refusal
-    refused-by : (c : RecordCheck) {f : Refusal} → checkedRecord (at .last) readHere ≡ c → afterRead c (nextAt (sharePair (only used)) at) ≡ T.Refused f → Refused f ≡ riseAnswer s
+    refused-by : (c : RecordCheck) {f : Refusal} → checkedRecord (at .last) readHere ≡ c → afterRead c (nextAt (sharePair (only used)) at) ≡ T.Refused f → Refused f ≡ riseAnswer (historyOf s)
     refused-by (K.Accepted n) e p = let o : _≡_ {A = ℕ} 0 1 = cc in absurd (omega arith)
     refused-by (K.Refused f) e p = let same : T.Refused f ≡ T.Refused _ = p in ap Refused (cc) ∙ rest-refused (sharePair (only used)) (used .rated) s (at .last) (at .sum) z e ∙ a .answer
 
     -- what was read is what stands at the link
-    pub turn-refused : {read : RecordRead} {turn : Turn} {f : Refusal} → read ≡ readHere → turn ≡ turnOf (sharePair (only used)) at read → turn ≡ T.Refused f → Refused f ≡ riseAnswer s
+    pub turn-refused : {read : RecordRead} {turn : Turn} {f : Refusal} → read ≡ readHere → turn ≡ turnOf (sharePair (only used)) at read → turn ≡ T.Refused f → Refused f ≡ riseAnswer (historyOf s)
     unfolding turnOf
     turn-refused er et e = refused-by (checkedRecord (at .last) readHere) refl (sym (ap (turnOf (sharePair (only used)) at) er) ∙ sym et ∙ e)
 

@@ -23,7 +23,7 @@ use Rattle.sheet.proofs.HeaderChecks.{accepted-header}
 use Rattle.sheet.proofs.RecordChecks.{header-held}
 use Rattle.sheet.proofs.ChainTurns.{chain-ends, chain-refused, chain-goes-on}
 use Rattle.history.specs.Rise.{stepHeat, startHeat, sumOf, riseOf}
-use Rattle.history.specs.Answer.{afterChain, riseAnswer}
+use Rattle.history.specs.Answer.{afterChain, historyOf, riseAnswer}
 use Rattle.history.specs.Walk.{Begins}
 use Rattle.history.specs.declared.RiseAnswer.{RiseAnswer}
 use Rattle.history.specs.declared.RiseAnswer.the-variants.{Rise, Refused}
@@ -80,12 +80,12 @@ module _ (pairs : ℕ → Bounds) (rated : ℕ) where
 -- ---- the whole sheet
 
 module _ (s : List ℕ) where
-  pub header-refused : {f : Refusal} → checkedHeader s ≡ H.Refused f → Refused f ≡ riseAnswer s
+  pub header-refused : {f : Refusal} → checkedHeader s ≡ H.Refused f → Refused f ≡ riseAnswer (historyOf s)
   unfolding riseAnswer
   header-refused e = rw (e, riseAnswer)
 
   -- the walk begins with the header's own record and its current's part
-  pub rest-of-all : {h : Header} → checkedHeader s ≡ H.Accepted h → rest (sharePair (alone (h .cable))) (alone (h .cable) .cable .rated) s (beforeFirst (h .start) (h .link)) (startHeat (h .start)) ≡ riseAnswer s
+  pub rest-of-all : {h : Header} → checkedHeader s ≡ H.Accepted h → rest (sharePair (alone (h .cable))) (alone (h .cable) .cable .rated) s (beforeFirst (h .start) (h .link)) (startHeat (h .start)) ≡ riseAnswer (historyOf s)
   unfolding riseAnswer rest riseWith riseOf
   rest-of-all {h} e =
       let is = accepted-header s e .is in

@@ -10,7 +10,7 @@ use Rattle.cable.specs.Group as G
 use Rattle.cable.specs.Group.{Group, Given, accepted}
 use Rattle.share.specs.Pair.{sharePair}
 use Rattle.share.specs.Promises.{widthOf, exactShare}
-use Rattle.sheet.specs.Header.{groupOf, startingCurrent, givenHeader}
+use Rattle.sheet.specs.Header.{startingCurrent, givenHeader}
 use Rattle.sheet.specs.Chain.{Step, Chain, steps, refused, chainOf}
 use Rattle.history.specs.Rise.{riseOf}
 use Rattle.history.specs.Exact.{RiseDistance}
@@ -30,8 +30,18 @@ abbrev pub riseOfGiven : Given → ℕ → Chain → RiseAnswer
 riseOfGiven (accepted g) start chain = riseFrom g start chain
 riseOfGiven (G.refused f) start chain = Refused f
 
-unfoldable pub riseAnswer : List ℕ → RiseAnswer
-riseAnswer s = riseOfGiven (givenHeader s) (startingCurrent s) (chainOf s)
+-- What a rise is asked of.
+pub record LoadHistory : Type 0 where
+  pub given : Given
+  pub start : ℕ
+  pub chain : Chain
+
+-- as the bytes of a sheet hold it
+abbrev pub historyOf : List ℕ → LoadHistory
+historyOf s = record { given = givenHeader s; start = startingCurrent s; chain = chainOf s }
+
+unfoldable pub riseAnswer : LoadHistory → RiseAnswer
+riseAnswer h = riseOfGiven (h .given) (h .start) (h .chain)
 
 -- the paper's number, place and values of each answer
 abbrev pub statedRise : RiseAnswer → Stated
@@ -43,8 +53,8 @@ abbrev pub stepsOf : Chain → List Step
 stepsOf (steps ss) = ss
 stepsOf (refused f) = []
 
--- the answer, and how far a rise may be from the exact one of the sheet's group, starting current and steps: 'What the distances say'
-pub record RiseSaid (s : List ℕ) (r : RiseAnswer) : Type 0 where
-  pub answer : r ≡ riseAnswer s
-  pub distance : (low high : ℤ) → statedRise r ≡ statedValues (low ∷ high ∷ [])
-      → RiseDistance (widthOf (groupOf s)) (exactShare (groupOf s)) (startingCurrent s) (groupOf s .cable .rated) (stepsOf (chainOf s)) (record { low = low; high = high })
+-- the answer, and how far a rise may be from the exact one of the group, starting current and steps: 'What the distances say'
+pub record RiseSaid (h : LoadHistory) (r : RiseAnswer) : Type 0 where
+  pub answer : r ≡ riseAnswer h
+  pub distance : (g : Group) → h .given ≡ accepted g → (low high : ℤ) → statedRise r ≡ statedValues (low ∷ high ∷ [])
+      → RiseDistance (widthOf g) (exactShare g) (h .start) (g .cable .rated) (stepsOf (h .chain)) (record { low = low; high = high })

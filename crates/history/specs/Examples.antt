@@ -22,7 +22,7 @@ use Rattle.sheet.specs.Records.{recordAt, checkedRecord}
 use Rattle.sheet.specs.Chain.{Step, chainFrom}
 use Rattle.history.specs.Rise.{sumOf, riseOf}
 use Rattle.history.specs.Exact.{exactSum, exactRise, changes, RiseDistance}
-use Rattle.history.specs.Answer.{riseAnswer, statedRise}
+use Rattle.history.specs.Answer.{historyOf, riseAnswer, statedRise}
 use Rattle.history.specs.declared.RiseAnswer.the-variants.{Rise, Refused}
 
 abbrev pairs : ℕ → Bounds
@@ -115,16 +115,16 @@ abbrev sheet-with : List ℕ → List ℕ
 sheet-with rest = 0 ∷ 0 ∷ 1 ∷ 244 ∷ 0 ∷ 0 ∷ 3 ∷ 232 ∷ 0 ∷ 0 ∷ 1 ∷ 244 ∷ 0 ∷ 9 ∷ 39 ∷ 192 ∷ 0 ∷ 7 ∷ 161 ∷ 32 ∷ 0 ∷ 0 ∷ 3 ∷ 232 ∷ 0 ∷ 0 ∷ 0 ∷ 100 ∷ 0 ∷ 0 ∷ 1 ∷ 144 ∷ rest
 
 -- 200 A of the rated 400 A, for ever
-steady : riseAnswer (sheet-with (0 ∷ 200 ∷ 0 ∷ 0 ∷ [])) ≡ Rise (rise (pos 250000) (pos 250000))
+steady : riseAnswer (historyOf (sheet-with (0 ∷ 200 ∷ 0 ∷ 0 ∷ []))) ≡ Rise (rise (pos 250000) (pos 250000))
 unfolding riseAnswer checkedHeader wrongLength checked outsideField cableOf bigEndian chainFrom riseOf sumOf addB dividedB floorZ ceilZ inUse
 steady = refl
 
 -- the header passes, and the first link leads to no record
-no-such-record : riseAnswer (sheet-with (0 ∷ 200 ∷ 0 ∷ 1 ∷ [])) ≡ Refused (record { number = 5; place = P.Record 0 })
+no-such-record : riseAnswer (historyOf (sheet-with (0 ∷ 200 ∷ 0 ∷ 1 ∷ []))) ≡ Refused (record { number = 5; place = P.Record 0 })
 unfolding riseAnswer checkedHeader wrongLength checked outsideField cableOf bigEndian chainFrom checkedRecord recordAt
 no-such-record = refl
 
 -- nothing at all
-empty : riseAnswer [] ≡ Refused (record { number = 1; place = P.None })
+empty : riseAnswer (historyOf []) ≡ Refused (record { number = 1; place = P.None })
 unfolding riseAnswer checkedHeader wrongLength
 empty = refl

@@ -19,8 +19,12 @@ unfoldable pub sumOf : (ℕ → Bounds) → ℕ → List Step → Bounds
 sumOf pairs previous [] = pointB (pos 0)
 sumOf pairs previous (s ∷ ss) = addB (stepHeat (pairs (s .minutes)) previous (s .amperes)) (sumOf pairs (s .amperes) ss)
 
+-- a whole share, in millionths
+abbrev pub million : ℕ
+million = 1000000
+
 abbrev pub startHeat : ℕ → Bounds
-startHeat start = pointB (pos (start * start * 1000000))
+startHeat start = pointB (pos (start * start * million))
 
 -- one division at the end: low "is rounded down, toward minus infinity; high is the mirror, rounded up"
 unfoldable pub riseOf : (ℕ → Bounds) → ℕ → ℕ → List Step → Bounds

@@ -18,7 +18,7 @@ use Rattle.sheet.specs.declared.RecordRead.{RecordRead}
 use Rattle.sheet.specs.declared.RecordCheck.{RecordCheck}
 use Rattle.sheet.specs.declared.RecordCheck.the-variants as K
 use Rattle.sheet.specs.declared.HeaderCheck.the-variants as H
-use Rattle.history.specs.Rise.{stepHeat, startHeat}
+use Rattle.history.specs.Rise.{million, stepHeat, startHeat}
 use Rattle.history.specs.declared.Reached.{Reached}
 use Rattle.history.specs.declared.Turn.{Turn}
 use Rattle.history.specs.declared.Turn.the-variants.{Next, Refused}
@@ -47,7 +47,7 @@ endOf used at = dividedB (at .sum) (used .rated * used .rated)
 
 -- in A² times millionths: twice the largest square, times a whole share. No step's part is larger
 abbrev pub stepMost : ℕ
-stepMost = 2 * (mostAmperes * mostAmperes) * 1000000
+stepMost = 2 * (mostAmperes * mostAmperes) * million
 
 -- a part for each minute that has passed since before the first record, and one for the start
 abbrev pub partsTo : ℕ → ℕ

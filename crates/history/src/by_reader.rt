@@ -1,5 +1,5 @@
 // The rise with the chain walked by the reader of the sheet: same answer, same turns, another loop.
-ghost use Rattle.history.specs.Answer.{RiseSaid};
+ghost use Rattle.history.specs.Answer.{historyOf, RiseSaid};
 ghost use Rattle.history.specs.Walk.{Begins};
 use crate::RiseAnswer;
 use crate::Turn;
@@ -16,7 +16,7 @@ use sheet::reader;
 
 // The same rise, its chain walked by a reader: the starting current and every link, minute and ampere come through it.
 pub fn rise_by_reader(sheet: &[u8]) -> RiseAnswer
-    ensures { λ r. ⌜ RiseSaid (now (sheet .entry)) r ⌝ }
+    ensures { λ r. ⌜ RiseSaid (historyOf (now (sheet .entry))) r ⌝ }
 {
     let checked = sheet::check_header(sheet);
     match checked {
@@ -39,7 +39,7 @@ pub fn rise_by_reader(sheet: &[u8]) -> RiseAnswer
 // The reader's walk, from the header's own record on.
 fn reader_rise(sheet: &[u8], used: Cable, first: LoadRecord) -> RiseAnswer
     requires { ⌜ Begins (now sheet) used first ⌝ }
-    ensures { λ r. ⌜ RiseSaid (now (sheet .entry)) r ⌝ }
+    ensures { λ r. ⌜ RiseSaid (historyOf (now (sheet .entry))) r ⌝ }
 {
     let mut at = begin(first);
     loop {

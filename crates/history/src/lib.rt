@@ -7,7 +7,7 @@ ghost use Rattle.cable.specs.Group.{only};
 ghost use Rattle.share.specs.Pair.{sharePair};
 ghost use Rattle.sheet.specs.Header.{mostAmperes};
 ghost use Rattle.history.specs.Rise.{changeOf};
-ghost use Rattle.history.specs.Answer.{statedRise, RiseSaid};
+ghost use Rattle.history.specs.Answer.{statedRise, historyOf, RiseSaid};
 ghost use Rattle.history.specs.declared.Turn.the-variants.{Next};
 ghost use Rattle.history.specs.Walk.{Begins, Turning, StepTo, beginAt, nextAt, turnOf, endOf};
 
@@ -47,7 +47,7 @@ const MILLION: u64 = 1000000;
 
 // The rise now, from the bytes of a sheet of any length. The sheet is only read.
 pub fn rise(sheet: &[u8]) -> RiseAnswer
-    ensures { λ r. ⌜ RiseSaid (now (sheet .entry)) r ⌝ }
+    ensures { λ r. ⌜ RiseSaid (historyOf (now (sheet .entry))) r ⌝ }
 {
     let checked = sheet::check_header(sheet);
     match checked {
@@ -63,7 +63,7 @@ pub fn rise(sheet: &[u8]) -> RiseAnswer
 // The walk along the chain of records, from the header's own on. Minutes fall from record to record.
 fn chain_rise(sheet: &[u8], used: Cable, first: LoadRecord) -> RiseAnswer
     requires { ⌜ Begins (now sheet) used first ⌝ }
-    ensures { λ r. ⌜ RiseSaid (now (sheet .entry)) r ⌝ }
+    ensures { λ r. ⌜ RiseSaid (historyOf (now (sheet .entry))) r ⌝ }
 {
     let mut at = begin(first);
     loop {

@@ -4,7 +4,7 @@ ghost use mathlib.Core.Path.{_≡_};
 ghost use Rattle.cable.specs.Checks.{cableFrom};
 ghost use Rattle.cable.specs.Group.{givenCable};
 ghost use Rattle.share.specs.Answer.{ShareSaid, statedShare};
-ghost use Rattle.history.specs.Answer.{RiseSaid, statedRise};
+ghost use Rattle.history.specs.Answer.{historyOf, RiseSaid, statedRise};
 ghost use Rattle.cycle.specs.Answer.{FactorSaid, statedFactor};
 ghost use Rattle.emergency.specs.Answer.{CurrentSaid, statedCurrent};
 ghost use Rattle.kechmowad.specs.Crossing.{fiveOf, Crosses};
@@ -22,7 +22,7 @@ pub extern "C" fn kechmowad_share(cable: &[u32; 8], minutes: u32, answer: &mut [
 // The rise of a sheet: low and high.
 #[no_mangle]
 pub extern "C" fn kechmowad_rise(sheet: &[u8], answer: &mut [i64; 5])
-    ensures { λ _. ⌜ Crosses (RiseSaid (now (sheet .entry))) statedRise (now (answer .exit)) ⌝ }
+    ensures { λ _. ⌜ Crosses (RiseSaid (historyOf (now (sheet .entry)))) statedRise (now (answer .exit)) ⌝ }
 {
     let rise = history::rise(sheet);
     *answer = copied(history::parts(rise));

@@ -5,9 +5,17 @@ use mathlib.Core.List.{List}
 use Prim.Native.Nat.{ℕ, _+_, _≤_}
 use lib.Dec.{eqb}
 use lib.ListN.{getD}
+use Rattle.cycle.specs.Day.{dayHours}
 use Rattle.rating.specs.declared.words.Fault.{Fault}
 use Rattle.rating.specs.declared.words.Fault.the-variants.{None, Count, NotWhole}
 use Rattle.rating.specs.declared.words.Numbers.{Numbers}
+
+abbrev pub cableFields : ℕ
+cableFields = 8
+
+-- a cable and its hours, the most that a calculation takes
+abbrev pub numbersRoom : ℕ
+numbersRoom = cableFields + dayHours
 
 abbrev pub miscounted : Fault → Bool
 miscounted None = false

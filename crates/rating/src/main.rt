@@ -11,12 +11,12 @@ use report::Outcome;
 use report::Walk;
 use words::Fault;
 
-// How many numbers each calculation takes: a cable's eight fields, and what is asked of it.
-const SHARE_NUMBERS: usize = 9;
+// How many numbers each calculation takes: a cable's fields, and what is asked of it.
+const SHARE_NUMBERS: usize = words::CABLE_FIELDS + 1;
 
-const FACTOR_NUMBERS: usize = 32;
+const FACTOR_NUMBERS: usize = words::CABLE_FIELDS + words::DAY_HOURS;
 
-const CURRENT_NUMBERS: usize = 11;
+const CURRENT_NUMBERS: usize = words::CABLE_FIELDS + 3;
 
 fn main() {
     let words = os::arg_count();

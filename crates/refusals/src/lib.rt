@@ -24,7 +24,7 @@ pub struct Refusal {
 }
 
 // The place's number, 0 for none.
-pub fn place_number(place: Place) -> u8
+fn place_number(place: Place) -> u8
     ensures { λ r. ⌜ r ≡ placeNumber place ⌝ }
 {
     match place {
@@ -37,7 +37,7 @@ pub fn place_number(place: Place) -> u8
 }
 
 // The kinds of place by number, in document 01's order, and 0 for none.
-pub fn kind_number(place: Place) -> u8
+fn kind_number(place: Place) -> u8
     ensures { λ r. ⌜ r ≡ kindNumber (placeKind place) ⌝ }
 {
     match place {

@@ -2,7 +2,7 @@
 use mathlib.Core.List.{List}
 use Prim.Native.Nat.{ℕ}
 use Rattle.io.specs.Counts.{Counts}
-use Rattle.history.specs.Answer.{RiseSaid}
+use Rattle.history.specs.Answer.{historyOf, RiseSaid}
 use Rattle.history.specs.declared.RiseAnswer.{RiseAnswer}
 use Rattle.report.specs.declared.Input.{Input}
 use Rattle.report.specs.declared.Input.the-variants.{Length, Failed}
@@ -15,7 +15,7 @@ Within Failed buffer = Unit {0}
 
 pub record OfBytes (a : RiseAnswer) : Type 0 where
   pub sheet : List ℕ
-  pub said : RiseSaid sheet a
+  pub said : RiseSaid (historyOf sheet) a
 
 abbrev pub FromBytes : Outcome → Type 0
 FromBytes (Answer a) = OfBytes a

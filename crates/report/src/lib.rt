@@ -2,7 +2,7 @@
 ghost use Prim.Native.Nat.{_≤_};
 ghost use Rattle.text.specs.Writing.{lineRoom};
 ghost use Rattle.lines.specs.Lines.{Says};
-ghost use Rattle.history.specs.Answer.{RiseSaid};
+ghost use Rattle.history.specs.Answer.{historyOf, RiseSaid};
 ghost use Rattle.report.specs.Reading.{Within, FromBytes};
 ghost use Rattle.report.specs.Lines.{riseLine};
 use history::RiseAnswer;
@@ -60,7 +60,7 @@ pub fn rise_from(descriptor: i32, walk: Walk) -> Outcome
 }
 
 fn walked(sheet: &[u8], walk: Walk) -> RiseAnswer
-    ensures { λ r. ⌜ RiseSaid (now (sheet .entry)) r ⌝ }
+    ensures { λ r. ⌜ RiseSaid (historyOf (now (sheet .entry))) r ⌝ }
 {
     match walk {
         Walk::Plain => history::rise(sheet),

@@ -5,6 +5,7 @@
 ghost use mathlib.Core.Path.{_≡_};
 ghost use mathlib.Core.Bool.{true, false};
 ghost use Prim.Native.Nat.{_≤_, _<_};
+ghost use Rattle.rise_files.specs.Words.{mostWords};
 use bounds::Bounds;
 use history::RiseAnswer;
 use libc::STDOUT_FILENO;
@@ -35,7 +36,7 @@ fn main() {
 
 // The counts after argument k, with the line of the sheet that it names.
 fn counted(counts: Counts, k: usize) -> Counts
-    requires { ⌜ (0 < k) × (k < 4096) × (counts .sheets < k) × (counts .alike < k) ⌝ }
+    requires { ⌜ (0 < k) × (k < mostWords) × (counts .sheets < k) × (counts .alike < k) ⌝ }
     ensures { λ r. ⌜ (r .sheets ≤ k) × (r .alike ≤ k) ⌝ }
 {
     if !begins(k) {
@@ -60,7 +61,7 @@ fn counted(counts: Counts, k: usize) -> Counts
 
 // How many arguments are looked at, the program's own name among them.
 fn word_count() -> usize
-    ensures { λ r. ⌜ r ≤ 4096 ⌝ }
+    ensures { λ r. ⌜ r ≤ mostWords ⌝ }
 {
     let count = os::arg_count();
     if count < MOST_WORDS {
@@ -113,7 +114,7 @@ fn rise_of(k: usize, walk: Walk) -> Outcome {
 
 // The line of the sheet that argument k names; whether the two walks answer alike.
 fn report_sheet(k: usize) -> bool
-    requires { ⌜ k < 4096 ⌝ }
+    requires { ⌜ k < mostWords ⌝ }
 {
     print_word(k);
     io::write_all(STDOUT_FILENO, b": ");
@@ -135,7 +136,7 @@ fn report_sheet(k: usize) -> bool
 }
 
 fn print_row(answer: RiseAnswer, k: usize)
-    requires { ⌜ k < 4096 ⌝ }
+    requires { ⌜ k < mostWords ⌝ }
 {
     let Signed::Integer(low_min) = word_at(k + 1) else {
         report::print_rise(answer, b"rise_files: a line cannot be written");
@@ -149,7 +150,7 @@ fn print_row(answer: RiseAnswer, k: usize)
 }
 
 fn print_inside(pair: Bounds, low_min: i64, k: usize)
-    requires { ⌜ k < 4096 ⌝ }
+    requires { ⌜ k < mostWords ⌝ }
 {
     if low_min <= pair.low
         && at_most(pair.low, k + 2)

@@ -22,7 +22,7 @@ const DIAMETERS: usize = 45;
 
 const LINES: usize = 7;
 
-const VALUES: u64 = 315;
+const VALUES: u64 = (DIAMETERS * LINES) as u64;
 
 // The columns of the table, in thousandths: Φ0 to Φ5 and 1 − β(6), which stand under one another in the lines named, for a diameter.
 const TABLE: [[u16; LINES]; DIAMETERS] = [
@@ -205,7 +205,7 @@ fn one_if(counts: bool) -> u64
 }
 
 // How many values of a column agree.
-fn agreeing_in(column: u16, printed: [u16; 7]) -> u64
+fn agreeing_in(column: u16, printed: [u16; LINES]) -> u64
     ensures { λ r. ⌜ (r ≡ agreeingLines column printed 7) × (r ≤ 7) ⌝ }
 {
     let mut count: u64 = 0;
@@ -216,7 +216,7 @@ fn agreeing_in(column: u16, printed: [u16; 7]) -> u64
 }
 
 // How many values of the table agree.
-fn agreeing(table: [[u16; 7]; 45]) -> u64
+fn agreeing(table: [[u16; LINES]; DIAMETERS]) -> u64
     ensures { λ r. ⌜ (r ≡ agreeingColumns table 45) × (r ≤ 315) ⌝ }
 {
     let mut count: u64 = 0;

@@ -41,6 +41,9 @@ pub record Appended (before : Line) (added : List ℕ) (after : Line) : Type 0 w
   pub longer : after .length ≡ before .length + length added
 
 -- A number of 64 bits takes 20 bytes at most: 20 digits, or a sign and 19.
+abbrev pub numberRoom : ℕ
+numberRoom = 20
+
 pub record AppendedNumber (before : Line) (added : List ℕ) (after : Line) : Type 0 where
   pub appended : Appended before added after
-  pub within : after .length ≤ before .length + 20
+  pub within : after .length ≤ before .length + numberRoom

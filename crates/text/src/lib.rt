@@ -6,10 +6,13 @@ ghost use lib.IntN.{natAbs};
 ghost use lib.ListN.{length};
 ghost use Rattle.text.specs.Reading.{zeroDigit, isDigit, spelledBy, numberOf, sameBytes};
 ghost use Rattle.text.specs.Reading.{beyondSigned, withSign, hasMinus, asInteger, signedOf};
-ghost use Rattle.text.specs.Writing.{decimalText, signedText, lineRoom, written, Appended, AppendedNumber};
+ghost use Rattle.text.specs.Writing.{decimalText, signedText, lineRoom, numberRoom, written, Appended, AppendedNumber};
 
 // Above every number of 18 digits.
 const BEYOND_SIGNED: u64 = 1000000000000000000;
+
+// In bytes: the longest decimal of 64 bits.
+const NUMBER_ROOM: usize = 20;
 
 // A number as it is asked for, or that the text is no whole number.
 pub enum Number {
@@ -159,7 +162,7 @@ impl Line {
 
     // In decimal, of 20 digits at most.
     pub fn with_number(self, n: u64) -> Line
-        requires { ⌜ self .length + 20 ≤ lineRoom ⌝ }
+        requires { ⌜ self .length + numberRoom ≤ lineRoom ⌝ }
         ensures { λ r. ⌜ AppendedNumber self (decimalText n) r ⌝ }
     {
         self.with_digits(n)
@@ -167,7 +170,7 @@ impl Line {
 
     // In decimal, with a leading minus sign below 0: 20 bytes at most.
     pub fn with_signed(self, n: i64) -> Line
-        requires { ⌜ self .length + 20 ≤ lineRoom ⌝ }
+        requires { ⌜ self .length + numberRoom ≤ lineRoom ⌝ }
         ensures { λ r. ⌜ AppendedNumber self (signedText n) r ⌝ }
     {
         if n < 0 {
@@ -181,7 +184,7 @@ impl Line {
         requires { ⌜ self .length + length (decimalText n) ≤ lineRoom ⌝ }
         ensures { λ r. ⌜ Appended self (decimalText n) r ⌝ }
     {
-        let mut digits = [0u8; 20];
+        let mut digits = [0u8; NUMBER_ROOM];
         let count = io::decimal(n, &mut digits);
         self.with(&digits[..count])
     }

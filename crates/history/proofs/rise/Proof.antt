@@ -30,7 +30,7 @@ chain-rise-requires c κs =
 returns : tie.Need-returns
 returns c =
     let k = c .before in
-    said (header-refused _ (sym (k .before .before .check-header .ensures .answer) ∙ k .checked .given .1))
+    said _ (header-refused _ (sym (k .before .before .check-header .ensures .answer) ∙ k .checked .given .1))
 
 returns-2 : tie.Need-returns-2
 returns-2 c = search needs

@@ -1,11 +1,12 @@
 -- The measure is how many words are left. No count is above how many words were looked at.
 use Prim.Native.Nat.{_-_, _≤_, _<_}
 use borrow.Author.Needs.{needs}
+use Rattle.rise_files.specs.Words.{mostWords}
 use Rattle.rise_files.proofs.main.Statement.{statement}
 use Rattle.rise_files.proofs.main.Tie as tie
 
 abbrev Inv-loop : tie.InvT-loop
-Inv-loop words counts₀ k₀ counts k = (words ≤ 4096) × (0 < k) × (counts .sheets < k) × (counts .alike < k)
+Inv-loop words counts₀ k₀ counts k = (words ≤ mostWords) × (0 < k) × (counts .sheets < k) × (counts .alike < k)
 
 abbrev μ-loop : tie.MeasureT-loop
 μ-loop words counts₀ k₀ counts k = words - k

@@ -47,13 +47,13 @@ loop-again c =
 returns : tie.Need-returns Inv-loop μ-loop
 returns c =
     let k = c .before in
-    said (chain-ended (k .before .before .before .loop .inv) (k .if1 .taken) (c .end .ensures))
+    said _ (chain-ended (k .before .before .before .loop .inv) (k .if1 .taken) (c .end .ensures))
 
 returns-2 : tie.Need-returns-2 Inv-loop μ-loop
 returns-2 c =
     let s = c .before .before .before in
     let k = s .before .before in
-    said (turn-refused (k .before .before .before .loop .inv) (k .if1 .left) (s .before .record-read .ensures .answer) (s .step .ensures) (c .before .turn .given .1))
+    said _ (turn-refused (k .before .before .before .loop .inv) (k .if1 .left) (s .before .record-read .ensures .answer) (s .step .ensures) (c .before .turn .given .1))
 
 pub reader-rise-spec : {M : Type 1} → statement M
 reader-rise-spec =

@@ -46,7 +46,7 @@ reader-rise-requires c κs =
 returns-2 : tie.Need-returns-2
 returns-2 c =
     let k = c .before in
-    said (header-refused _ (sym (k .before .before .check-header .ensures .answer) ∙ k .checked .given .1))
+    said _ (header-refused _ (sym (k .before .before .check-header .ensures .answer) ∙ k .checked .given .1))
 
 returns-3 : tie.Need-returns-3
 returns-3 c = search needs

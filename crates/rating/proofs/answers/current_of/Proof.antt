@@ -9,8 +9,20 @@ cable-of-requires c κs = search needs
 array-read-current : tie.Need-array-read-current
 array-read-current c = search needs
 
+add-current : tie.Need-add-current
+add-current c = search needs
+
+mul-current : tie.Need-mul-current
+mul-current c = search needs
+
 array-read-current-2 : tie.Need-array-read-current-2
 array-read-current-2 c = search needs
+
+add-current-2 : tie.Need-add-current-2
+add-current-2 c = search needs
+
+mul-current-2 : tie.Need-mul-current-2
+mul-current-2 c = search needs
 
 array-read-current-3 : tie.Need-array-read-current-3
 array-read-current-3 c = search needs
@@ -42,7 +54,11 @@ current-of-spec =
     (tie.spec
     cable-of-requires
     array-read-current
+    add-current
+    mul-current
     array-read-current-2
+    add-current-2
+    mul-current-2
     array-read-current-3
     current-requires
     slice-aggregate-answer-line
