@@ -1,6 +1,6 @@
 /* Times Arb on the cases. A line for each: name, microseconds, value, radius, and how (the way to E1 and the bits at the start). The value is the exact
    one in millionths (share and rise; the largest heating sum T of a factor; the share G of a current), with a radius below one half.
-   `plain`: document 01's formula as it stands, from 64 bits on, by the quickest of Arb's functions for E1. `fitted`: with what favours Arb on these cases,
+   `plain`: document 01's formula as it stands, with a source for each neighbour, from 64 bits on, by the quickest of Arb's functions for E1. `fitted`: with what favours Arb on these cases,
    the quickest of all ways to E1 and of several starting precisions, and no integral worked out that is too small to matter. */
 #if __has_include(<flint/arb.h>)
 #include <flint/acb.h>
@@ -23,7 +23,7 @@
 
 typedef void Integral(arb_t e1, const arb_t z, slong bits);
 
-static arb_t zero, one, negated, p, q, steady, fast, slow, share, sum, value, amperes;
+static arb_t zero, one, negated, p, q, near, image, steady, fast, slow, share, sum, value, amperes;
 static arb_t hourly[6];
 static acb_t at, ei;
 
@@ -86,13 +86,40 @@ static void decay(arb_t e, ulong weight, ulong rate, ulong seconds, slong bits)
     arb_mul_ui(e, e, weight, bits);
 }
 
-/* ln(1,600·l²/d²), the same for every share of a case. */
+/* c² or m² of a neighbour in mm²: to its axis with its depth, to its image with the negative of it. */
+static ulong squared(const Case *c, uint32_t i, slong depth)
+{
+    slong aside = c->offsets[i], down = (slong)c->cable[L] - depth;
+    return (ulong)(aside * aside + down * down);
+}
+
+static ulong to_axis(const Case *c, uint32_t i) { return squared(c, i, c->depths[i]); }
+static ulong to_image(const Case *c, uint32_t i) { return squared(c, i, -(slong)c->depths[i]); }
+
+/* ln(1,600·l²/d²) and each ln(m²/c²), the same for every share of a case. */
 static void set_steady(const Case *c, slong bits)
 {
     arb_set_ui(steady, 40ul * c->cable[L]);
     arb_div_ui(steady, steady, c->cable[D], bits);
     arb_log(steady, steady, bits);
     arb_mul_2exp_si(steady, steady, 1);
+    for (uint32_t i = 0; i < c->neighbours; i++) {
+        arb_set_ui(image, to_image(c, i));
+        arb_div_ui(image, image, to_axis(c, i), bits);
+        arb_log(image, image, bits);
+        arb_add(steady, steady, image, bits);
+    }
+}
+
+/* Adds each neighbour's integral, from c²/(4tδ) to m²/(4tδ). */
+static void add_neighbours(const Case *c, ulong spread, slong bits)
+{
+    for (uint32_t i = 0; i < c->neighbours; i++) {
+        tail(near, 250ul * to_axis(c, i), spread, bits);
+        tail(image, 250ul * to_image(c, i), spread, bits);
+        arb_add(p, p, near, bits);
+        arb_sub(p, p, image, bits);
+    }
 }
 
 static void set_share(const Case *c, ulong minutes, slong bits)
@@ -102,6 +129,7 @@ static void set_share(const Case *c, ulong minutes, slong bits)
     tail(p, 5ul * f[D] * f[D], 8 * spread, bits);
     tail(q, 1000ul * f[L] * f[L], spread, bits);
     arb_sub(p, p, q, bits);
+    add_neighbours(c, spread, bits);
     arb_div(p, p, steady, bits);
     arb_mul_ui(p, p, f[K], bits);
     arb_add_ui(p, p, 1000000ul - f[K], bits);
@@ -194,7 +222,8 @@ static void work(const Case *c)
 
 static void choose_question(const Case *c)
 {
-    value_of = asks(c, "share") ? value_of_share : asks(c, "rise") ? value_of_rise : asks(c, "factor") ? value_of_factor : value_of_current;
+    int rise = asks(c, "rise") || asks(c, "trench");
+    value_of = asks(c, "share") ? value_of_share : rise ? value_of_rise : asks(c, "factor") ? value_of_factor : value_of_current;
 }
 
 /* Sets the quickest way to E1 and the quickest start, by short runs, each printed if so asked. Returns the way's name. */
@@ -224,7 +253,7 @@ static const char *choose_quickest(const Case *c, int print)
 
 static void init(void)
 {
-    arb_ptr all[] = { zero, one, negated, p, q, steady, fast, slow, share, sum, value, amperes };
+    arb_ptr all[] = { zero, one, negated, p, q, near, image, steady, fast, slow, share, sum, value, amperes };
     for (size_t i = 0; i < sizeof all / sizeof *all; i++)
         arb_init(all[i]);
     for (size_t i = 0; i < sizeof hourly / sizeof *hourly; i++)

@@ -6,8 +6,8 @@
 #include <string.h>
 #include <time.h>
 
-#define STEPS 48
-#define SHEET_BYTES (36 + 6 * STEPS)
+#define RECORDS 48
+#define SHEET_BYTES (38 + 6 * RECORDS)
 #define RUNS 5
 
 /* Shorter only to go quickly through many cases: then the figures are rougher. */
@@ -22,18 +22,32 @@ typedef struct {
     uint32_t cable[FIELDS];
     uint32_t minutes, h, r;
     uint16_t hours[24];
-    uint32_t start, steps, step_minutes[STEPS], step_amperes[STEPS];
+    uint32_t start, steps, step_minutes[RECORDS], step_amperes[RECORDS];
+    uint32_t neighbours, depths[RECORDS];
+    int32_t offsets[RECORDS];
     uint8_t sheet[SHEET_BYTES];
     size_t length;
 } Case;
 
+static void hold(int holds, const char *name, const char *what)
+{
+    if (holds)
+        return;
+    fprintf(stderr, "bench: %s%s\n", name, what);
+    exit(2);
+}
+
 static uint32_t word(void)
 {
     uint32_t value;
-    if (scanf("%" SCNu32, &value) != 1) {
-        fprintf(stderr, "bench: a case is cut short\n");
-        exit(2);
-    }
+    hold(scanf("%" SCNu32, &value) == 1, "", "a case is cut short");
+    return value;
+}
+
+static int32_t signed_word(void)
+{
+    int32_t value;
+    hold(scanf("%" SCNd32, &value) == 1, "", "a case is cut short");
     return value;
 }
 
@@ -43,36 +57,65 @@ static void put(Case *c, uint32_t value, int bytes)
         c->sheet[c->length++] = (uint8_t)(value >> (8 * bytes));
 }
 
-/* The sheet of a rise: its records stand in the order of its chain. */
-static void write_sheet(Case *c)
+static int asks(const Case *c, const char *question) { return strcmp(c->question, question) == 0; }
+
+/* A record that links to the next one, unless it is the last of its kind. */
+static void put_record(Case *c, uint32_t one, uint32_t two, uint32_t number, uint32_t last)
+{
+    put(c, one, 2);
+    put(c, two, 2);
+    put(c, number < last ? number + 1 : 0, 2);
+}
+
+static void put_header(Case *c)
 {
     for (int i = 0; i < FIELDS; i++)
         put(c, c->cable[i], 4);
     put(c, c->start, 2);
     put(c, c->steps > 0, 2);
+    if (asks(c, "trench"))
+        put(c, c->neighbours > 0 ? c->steps + 1 : 0, 2);
+}
+
+/* The sheet of a rise: its records stand in the order of its chains, the steps first. */
+static void write_sheet(Case *c)
+{
+    uint32_t steps = c->steps, all = steps + c->neighbours;
+    put_header(c);
+    for (uint32_t i = 0; i < steps; i++)
+        put_record(c, c->step_minutes[i], c->step_amperes[i], i + 1, steps);
+    for (uint32_t i = 0; i < c->neighbours; i++)
+        put_record(c, (uint32_t)c->offsets[i], c->depths[i], steps + i + 1, all);
+}
+
+static void read_steps(Case *c)
+{
+    c->start = word();
+    c->steps = word();
+    hold(c->steps <= RECORDS, c->name, " has too many steps");
     for (uint32_t i = 0; i < c->steps; i++) {
-        put(c, c->step_minutes[i], 2);
-        put(c, c->step_amperes[i], 2);
-        put(c, i + 1 < c->steps ? i + 2 : 0, 2);
+        c->step_minutes[i] = word();
+        c->step_amperes[i] = word();
+    }
+}
+
+static void read_neighbours(Case *c)
+{
+    c->neighbours = word();
+    hold(c->neighbours <= RECORDS - c->steps, c->name, " has too many steps and neighbours");
+    for (uint32_t i = 0; i < c->neighbours; i++) {
+        c->offsets[i] = signed_word();
+        c->depths[i] = word();
     }
 }
 
 static void read_rise(Case *c)
 {
-    c->start = word();
-    c->steps = word();
-    if (c->steps > STEPS) {
-        fprintf(stderr, "bench: %s has more than %d steps\n", c->name, STEPS);
-        exit(2);
-    }
-    for (uint32_t i = 0; i < c->steps; i++) {
-        c->step_minutes[i] = word();
-        c->step_amperes[i] = word();
-    }
+    read_steps(c);
+    if (asks(c, "trench"))
+        read_neighbours(c);
     write_sheet(c);
 }
-
-static int asks(const Case *c, const char *question) { return strcmp(c->question, question) == 0; }
 
 /* The next case of standard input; 0 where there is none. */
 static inline int read_case(Case *c)
@@ -85,7 +128,7 @@ static inline int read_case(Case *c)
     if (asks(c, "factor"))
         for (int i = 0; i < 24; i++)
             c->hours[i] = (uint16_t)word();
-    if (asks(c, "rise"))
+    if (asks(c, "rise") || asks(c, "trench"))
         read_rise(c);
     if (asks(c, "current")) {
         c->h = word();

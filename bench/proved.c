@@ -14,7 +14,7 @@ static Work *work_of(const Case *c)
 {
     if (asks(c, "share"))
         return ask_share;
-    if (asks(c, "rise"))
+    if (asks(c, "rise") || asks(c, "trench"))
         return ask_rise;
     return asks(c, "factor") ? ask_factor : ask_current;
 }

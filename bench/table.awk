@@ -49,6 +49,7 @@ function least(p,    i, r) {
 
 function goals() {
     printf "Goal, a rise of 48 steps under 300 us: %s (%s)\n", (us["proved", "rise-48"] < 300 ? "met" : "MISSED"), time("proved", "rise-48")
+    printf "Goal, a rise of 24 steps with 24 neighbours in at most 300 us: %s (%s)\n", (us["proved", "trench-24"] <= 300 ? "met" : "MISSED"), time("proved", "trench-24")
     if (least("arb") == "") return
     printf "Goal, every case at least 5 times faster than Arb: %s (least %.2f); Arb fitted to each case: least %.2f\n", \
         (least("arb") >= 5 ? "met" : "MISSED"), least("arb"), least("fitted")

@@ -1,5 +1,6 @@
 /*
- * The four calculations for cable A of document 01, and a refusal of each kind of place.
+ * The four calculations for cable A of document 01, three of them for three such cables in
+ * one trench, and a refusal of each kind of place.
  *
  *     host/examples/run-c
  */
@@ -36,6 +37,22 @@ static const uint8_t steady[] = {
 static const uint8_t looping[] = {
     CABLE_BYTES, 0x01, 0x2C, 0x00, 0x01, /* 300 A, first link 1 */
     0x00, 0x1E, 0x01, 0x2C, 0x00, 0x01,  /* record 1: 30 minutes, 300 A, next 1 */
+};
+
+/*
+ * Neighbours 200 mm to either side at the cable's depth. Field 4 is then the ratio for all
+ * three: with that of a single cable the answers would be wrong, and nothing tells.
+ */
+static const uint8_t three_cables[] = {
+    CABLE_BYTES, 0x01, 0x2C, 0x00, 0x00, 0x00, 0x01, /* 300 A, no steps, second link 1 */
+    0x00, 0xC8, 0x03, 0xE8, 0x00, 0x02,              /* record 1: 200 mm aside, 1,000 deep, next 2 */
+    0xFF, 0x38, 0x03, 0xE8, 0x00, 0x00,              /* record 2: -200 mm, 1,000 deep, the end */
+};
+
+/* 40 mm are less than the cable's diameter of 50. */
+static const uint8_t too_near[] = {
+    CABLE_BYTES, 0x01, 0x2C, 0x00, 0x00, 0x00, 0x01, /* 300 A, no steps, second link 1 */
+    0x00, 0x28, 0x03, 0xE8, 0x00, 0x00,              /* record 1: 40 mm aside, 1,000 deep */
 };
 
 static const char *word_of_kind(int64_t kind)
@@ -84,10 +101,15 @@ static void print_value(const char *name, const int64_t answer[], const char *un
         printf("%" PRId64 " %s\n", answer[KECHMOWAD_VALUE], unit);
 }
 
-int main(void)
+/* 100 A for eighteen hours, then 400 A for six. */
+static void set_day(uint16_t hours[24])
 {
-    const uint32_t *cable = kechmowad_fields(&usual);
-    struct kechmowad_cable thin = usual;
+    for (int hour = 0; hour < 24; hour++)
+        hours[hour] = hour < 18 ? 100 : 400;
+}
+
+static void rate_alone(const uint32_t cable[8])
+{
     int64_t answer[KECHMOWAD_ANSWER_LENGTH];
     uint16_t hours[24];
 
@@ -97,13 +119,35 @@ int main(void)
     kechmowad_rise(steady, sizeof steady, answer);
     print_pair("rise of the sheet", answer);
 
-    for (int hour = 0; hour < 24; hour++)
-        hours[hour] = 200;
+    set_day(hours);
     kechmowad_factor(cable, hours, answer);
-    print_value("factor of an even day", answer, "thousandths");
+    print_value("factor of the day", answer, "thousandths");
 
-    kechmowad_current(cable, 100, 100, 60, answer);
+    kechmowad_current(cable, 75, 100, 120, answer);
     print_value("emergency current", answer, "A");
+}
+
+static void rate_in_trench(void)
+{
+    int64_t answer[KECHMOWAD_ANSWER_LENGTH];
+    uint16_t hours[24];
+
+    kechmowad_share_in_sheet(three_cables, sizeof three_cables, 60, answer);
+    print_pair("share of three cables", answer);
+
+    set_day(hours);
+    kechmowad_factor_in_sheet(three_cables, sizeof three_cables, hours, answer);
+    print_value("factor of three cables", answer, "thousandths");
+
+    kechmowad_current_in_sheet(three_cables, sizeof three_cables, 75, 100, 120, answer);
+    print_value("emergency current of three cables", answer, "A");
+}
+
+static void show_refusals(const uint32_t cable[8])
+{
+    struct kechmowad_cable thin = usual;
+    int64_t answer[KECHMOWAD_ANSWER_LENGTH];
+    uint16_t hours[24];
 
     thin.diameter = 99;
     kechmowad_share(kechmowad_fields(&thin), 60, answer);
@@ -112,6 +156,10 @@ int main(void)
     kechmowad_rise(looping, sizeof looping, answer);
     print_pair("looping sheet", answer);
 
+    kechmowad_share_in_sheet(too_near, sizeof too_near, 60, answer);
+    print_pair("neighbour 40 mm aside", answer);
+
+    set_day(hours);
     hours[5] = 4001;
     kechmowad_factor(cable, hours, answer);
     print_value("day with 4001 A", answer, "thousandths");
@@ -121,5 +169,13 @@ int main(void)
 
     kechmowad_current(cable, 51, 25, 60, answer);
     print_value("preload above the limit", answer, "A");
+}
+
+int main(void)
+{
+    const uint32_t *cable = kechmowad_fields(&usual);
+    rate_alone(cable);
+    rate_in_trench();
+    show_refusals(cable);
     return 0;
 }

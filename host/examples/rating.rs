@@ -1,8 +1,12 @@
-//! The four calculations for cable A of document 01, and a refusal of each kind of place.
+//! The four calculations for cable A of document 01, three of them for three such cables in
+//! one trench, and a refusal of each kind of place.
 //!
 //!     cargo run --offline --manifest-path host/Cargo.toml --example rating
 
-use kechmowad::{current, factor, rise, share, sheet, Bounds, Cable, Refusal};
+use kechmowad::{
+    current, current_in_sheet, factor, factor_in_sheet, long_sheet, rise, share, share_in_sheet,
+    sheet, Bounds, Cable, Refusal,
+};
 
 const CABLE: Cable = Cable {
     diameter: 500,          // 50 mm
@@ -15,7 +19,12 @@ const CABLE: Cable = Cable {
     rated: 400,
 };
 
-fn main() -> Result<(), Refusal> {
+/// 100 A for eighteen hours, then 400 A for six.
+fn day() -> [u16; 24] {
+    std::array::from_fn(|hour| if hour < 18 { 100 } else { 400 })
+}
+
+fn rate_alone() -> Result<(), Refusal> {
     let Bounds { low, high } = share(&CABLE, 60)?;
     println!("share after 60 minutes: {low} to {high} millionths");
 
@@ -24,12 +33,31 @@ fn main() -> Result<(), Refusal> {
     let Bounds { low, high } = rise(&steady)?;
     println!("rise of the sheet: {low} to {high} millionths");
 
-    let thousandths = factor(&CABLE, &[200; 24])?;
-    println!("factor of an even day: {thousandths} thousandths");
+    let thousandths = factor(&CABLE, &day())?;
+    println!("factor of the day: {thousandths} thousandths");
 
-    let amperes = current(&CABLE, 100, 100, 60)?;
+    let amperes = current(&CABLE, 75, 100, 120)?;
     println!("emergency current: {amperes} A");
+    Ok(())
+}
 
+fn rate_in_trench() -> Result<(), Refusal> {
+    // Neighbours 200 mm to either side at the cable's depth. Field 4 is then the ratio for all
+    // three: with that of a single cable the answers would be wrong, and nothing tells.
+    let neighbours = [[200, 1_000, 2], [-200i16 as u16, 1_000, 0]];
+    let three_cables = long_sheet(&CABLE, 300, 0, 1, &neighbours);
+    let Bounds { low, high } = share_in_sheet(&three_cables, 60)?;
+    println!("share of three cables: {low} to {high} millionths");
+
+    let thousandths = factor_in_sheet(&three_cables, &day())?;
+    println!("factor of three cables: {thousandths} thousandths");
+
+    let amperes = current_in_sheet(&three_cables, 75, 100, 120)?;
+    println!("emergency current of three cables: {amperes} A");
+    Ok(())
+}
+
+fn show_refusals() {
     let thin = Cable {
         diameter: 99,
         ..CABLE
@@ -40,13 +68,16 @@ fn main() -> Result<(), Refusal> {
     let looping = sheet(&CABLE, 300, 1, &[[30, 300, 1]]);
     print_refusal("looping sheet", rise(&looping));
 
-    let mut hours = [200; 24];
+    // 40 mm are less than the cable's diameter of 50.
+    let too_near = long_sheet(&CABLE, 300, 0, 1, &[[40, 1_000, 0]]);
+    print_refusal("neighbour 40 mm aside", share_in_sheet(&too_near, 60));
+
+    let mut hours = day();
     hours[5] = 4_001;
     print_refusal("day with 4001 A", factor(&CABLE, &hours));
 
     print_refusal("preload of 201 percent", current(&CABLE, 201, 100, 60));
     print_refusal("preload above the limit", current(&CABLE, 51, 25, 60));
-    Ok(())
 }
 
 fn print_refusal<T>(name: &str, answer: Result<T, Refusal>) {
@@ -57,4 +88,11 @@ fn print_refusal<T>(name: &str, answer: Result<T, Refusal>) {
             println!("{name}: refused {number} at {place}");
         }
     }
+}
+
+fn main() -> Result<(), Refusal> {
+    rate_alone()?;
+    rate_in_trench()?;
+    show_refusals();
+    Ok(())
 }

@@ -3,9 +3,9 @@
     cargo build --release --offline --example answers
     python3 compare.py COUNT SEED
 
-asks COUNT shares and a quarter as many factors, currents and rises, and prints
-the largest difference of each kind, and of how many days the hottest hour is not that
-of the highest load."""
+asks COUNT shares and a quarter as many factors, currents and rises, each of a sheet, of
+which two of three have neighbours. It prints the largest difference of each kind, and of
+how many days the hottest hour is not that of the highest load."""
 import os
 import random
 import subprocess
@@ -51,16 +51,61 @@ def any_cable():
     ]
 
 
-def share(cable, minutes):
-    """G in millionths, in metres and seconds as document 000 writes it."""
+def any_neighbour(d, l):
+    """Touching, at the cable's depth, at an end of what is allowed, or anywhere."""
+    touching = -(-d // 10)
+    while True:
+        offset, depth = random.choice(
+            [
+                (touching, l),
+                (touching * random.randint(1, 9), l),
+                (0, pick(300, 5000)),
+                (3000, random.choice([300, l, 5000])),
+                (pick(0, 3000), pick(300, 5000)),
+            ]
+        )
+        if offset <= 3000 and 100 * (offset**2 + (l - depth) ** 2) >= d**2:
+            return random.choice([-1, 1]) * offset, depth
+
+
+def any_neighbours(cable):
+    count = random.choice([0, 1, 2, 2, 5, 12, random.randint(0, 48)])
+    return [any_neighbour(cable[0], cable[1]) for _ in range(count)]
+
+
+def any_trench():
+    cable = any_cable()
+    return cable, any_neighbours(cable) if random.random() < 0.75 else []
+
+
+def in_sheet(cable, neighbours, start=0, first=0, records=()):
+    """The bytes of a sheet in hexadecimal: these records, then the neighbours."""
+    count = len(records)
+    links = [count + 2 + i for i in range(len(neighbours))]
+    links[-1:] = [0] * len(links[-1:])
+    text = "".join(f"{field:08x}" for field in cable) + f"{start:04x}{first:04x}"
+    if neighbours:
+        text += f"{count + 1:04x}"
+    rest = [[offset % 65536, depth, link] for (offset, depth), link in zip(neighbours, links)]
+    return text + "".join(f"{x:04x}" for record in list(records) + rest for x in record)
+
+
+def share(cable, neighbours, minutes):
+    """G in millionths, in metres and seconds as document 000 writes it: one source for
+    each cable, and its image above ground."""
     d, l, s, k, w, fast, slow, _ = cable
     t = 60 * minutes
     diameter, depth, diffusivity = mpf(d) / 10**4, mpf(l) / 10**3, mpf(s or 500) / 10**9
     integral = e1(diameter**2 / (16 * t * diffusivity)) - e1(depth**2 / (t * diffusivity))
-    beta = integral / (2 * log(4 * depth / diameter))
+    steady = 2 * log(4 * depth / diameter)
+    for offset, below in neighbours:
+        x, y = mpf(offset) / 10**3, mpf(below) / 10**3
+        near, image = x**2 + (depth - y) ** 2, x**2 + (depth + y) ** 2
+        integral += e1(near / (4 * t * diffusivity)) - e1(image / (4 * t * diffusivity))
+        steady += log(image / near)
     w, k = mpf(w) / MILLION, mpf(k) / MILLION
     alpha = 1 - w * exp(-mpf(fast) * t / MILLION) - (1 - w) * exp(-mpf(slow) * t / MILLION)
-    return (1 - k + k * beta) * alpha * MILLION
+    return (1 - k + k * integral / steady) * alpha * MILLION
 
 
 def only(*expected):
@@ -69,8 +114,9 @@ def only(*expected):
 
 
 def share_question():
-    cable, minutes = any_cable(), pick(1, 2880)
-    return ["share"] + cable + [minutes], [share(cable, minutes)], only()
+    (cable, neighbours), minutes = any_trench(), pick(1, 2880)
+    asked = ["share", in_sheet(cable, neighbours), minutes]
+    return asked, [share(cable, neighbours, minutes)], only()
 
 
 def any_day():
@@ -102,12 +148,12 @@ elsewhere = []
 
 def factor_question():
     """T is the largest of the 24 sums, and the hour told has it or one as good as equal."""
-    cable, hours = any_cable(), any_day()
+    (cable, neighbours), hours = any_trench(), any_day()
     if max(hours) == 0:
         hours[3] = 5
     highest = max(hours)
     squares = [mpf(hour) ** 2 / highest**2 for hour in hours]
-    g = [mpf(0)] + [share(cable, 60 * j) for j in range(1, 7)]
+    g = [mpf(0)] + [share(cable, neighbours, 60 * j) for j in range(1, 7)]
     sums = [heating_sum(squares, g, reference) for reference in range(24)]
     largest = max(sums)
     at_highest = max(sums[i] for i in range(24) if hours[i] == highest)
@@ -116,25 +162,27 @@ def factor_question():
     def right(wholes):
         return len(wholes) == 1 and largest - sums[wholes[0]] <= EQUAL
 
-    return ["factor"] + cable + hours, [largest], right
+    return ["factor", in_sheet(cable, neighbours)] + hours, [largest], right
 
 
 def current_question():
-    cable = any_cable()
+    cable, neighbours = any_trench()
     while True:
         h, r = pick(0, 200), pick(1, 200)
         if h * h <= 100 * r:
             break
     minutes = pick(1, 2880)
-    g = share(cable, minutes)
+    g = share(cable, neighbours, minutes)
     preload = mpf(h) ** 2 / 10**4
     amperes = cable[7] * sqrt(preload + (mpf(r) / 100 - preload) / (g / MILLION))
-    return ["current"] + cable + [h, r, minutes], [amperes, g], only()
+    return ["current", in_sheet(cable, neighbours), h, r, minutes], [amperes, g], only()
 
 
 def rise_question():
-    """A chain of any length through shuffled records, the others filled at random."""
-    cable, n = any_cable(), random.randint(0, 48)
+    """A chain of any length through shuffled records, the others filled at random; then the
+    neighbours."""
+    cable, neighbours = any_trench()
+    n = random.randint(0, 48 - len(neighbours))
     chain = random.sample(range(1, n + 1), random.randint(0, n))
     minutes = sorted(random.sample(range(1, 2881), len(chain)), reverse=True)
     records = [[random.randint(0, 65535) for _ in range(3)] for _ in range(n)]
@@ -144,12 +192,13 @@ def rise_question():
         amperes = pick(0, 4000)
         records[record - 1] = [then, amperes, link]
         change = amperes**2 - before**2
-        total += change * share(cable, then)
+        total += change * share(cable, neighbours, then)
         changes += abs(change)
         before = amperes
     first = chain[0] if chain else 0
-    asked = ["rise"] + cable + [start, first] + [x for record in records for x in record]
-    return asked, [total / mpf(cable[7]) ** 2], only(changes, cable[7], len(chain))
+    asked = ["rise", in_sheet(cable, neighbours, start, first, records)]
+    right = only(changes, cable[7], len(chain), len(neighbours))
+    return asked, [total / mpf(cable[7]) ** 2], right
 
 
 questions = [share_question() for _ in range(COUNT)]

@@ -1,7 +1,13 @@
 //! Cyclic and emergency ratings of a buried cable: safe calls of the proved library
-//! Kechmowad. "The paper" is document 01, the scope paper, with note 1 of document 02; it
-//! decides what each call answers. Every call takes whatever it is handed and gives a
+//! Kechmowad. "The paper" is document 01, the scope paper, with notes 1 and 2 of document
+//! 02; it decides what each call answers. Every call takes whatever it is handed and gives a
 //! result or a refusal.
+//!
+//! Share, factor and current are asked of a cable alone, or of a sheet, which may have
+//! neighbours: other cables in the trench with equal losses. Without a sheet there are no
+//! neighbours. Field 4 of a sheet with neighbours is the ratio for the whole group: with
+//! that of a single cable the answer would be wrong, and nothing tells. The whole sheet is
+//! checked first, its load chain too where only a share, a factor or a current is asked.
 //!
 //! ```
 //! use kechmowad::{current, share, Cable, Condition, Place, Refusal};
@@ -30,7 +36,8 @@ pub struct Cable {
     pub depth: u32,
     /// s: soil diffusivity, 10^-9 m²/s, 100 to 2,000, or 0, which stands for 500.
     pub diffusivity: u32,
-    /// k: steady surface rise over conductor rise, millionths, 0 to 1,000,000.
+    /// k: steady surface rise over conductor rise, millionths, 0 to 1,000,000; of a sheet
+    /// with neighbours the ratio for the whole group.
     pub surface_ratio: u32,
     /// w: weight of the fast part, millionths, 0 to 1,000,000.
     pub fast_weight: u32,
@@ -83,6 +90,26 @@ mod raw {
         pub fn kechmowad_rise(sheet: *const u8, length: usize, answer: *mut i64);
         pub fn kechmowad_factor(cable: *const u32, hours: *const u16, answer: *mut i64);
         pub fn kechmowad_current(cable: *const u32, h: u32, r: u32, minutes: u32, answer: *mut i64);
+        pub fn kechmowad_share_in_sheet(
+            sheet: *const u8,
+            length: usize,
+            minutes: u32,
+            answer: *mut i64,
+        );
+        pub fn kechmowad_factor_in_sheet(
+            sheet: *const u8,
+            length: usize,
+            hours: *const u16,
+            answer: *mut i64,
+        );
+        pub fn kechmowad_current_in_sheet(
+            sheet: *const u8,
+            length: usize,
+            h: u32,
+            r: u32,
+            minutes: u32,
+            answer: *mut i64,
+        );
     }
 }
 
@@ -130,8 +157,17 @@ pub fn share(cable: &Cable, minutes: u32) -> Result<Bounds, Refusal> {
     ask(|answer| unsafe { raw::kechmowad_share(fields, minutes, answer) }).map(pair)
 }
 
+/// The share of a sheet's cable and neighbours. The sheet's refusals, 1 to 8 and 14 to 16,
+/// then 9.
+pub fn share_in_sheet(sheet: &[u8], minutes: u32) -> Result<Bounds, Refusal> {
+    let (bytes, length) = (sheet.as_ptr(), sheet.len());
+    // SAFETY: as for the rise.
+    ask(|answer| unsafe { raw::kechmowad_share_in_sheet(bytes, length, minutes, answer) }).map(pair)
+}
+
 /// The rise at the end of a load sheet's history, in millionths of the steady rise at
-/// rated current; low may be negative. Refusals 1 to 8.
+/// rated current; low may be negative. At each step the neighbours' losses are equal to the
+/// cable's. Refusals 1 to 8 and 14 to 16.
 pub fn rise(sheet: &[u8]) -> Result<Bounds, Refusal> {
     // SAFETY: a slice's pointer is never null and has its length of bytes to read.
     ask(|answer| unsafe { raw::kechmowad_rise(sheet.as_ptr(), sheet.len(), answer) }).map(pair)
@@ -147,6 +183,15 @@ pub fn factor(cable: &Cable, hours: &[u16; 24]) -> Result<u32, Refusal> {
     ask(|answer| unsafe { raw::kechmowad_factor(fields, hours.as_ptr(), answer) }).map(whole)
 }
 
+/// The factor of a sheet's cable and neighbours. The sheet's refusals, 1 to 8 and 14 to 16,
+/// then 10, 11.
+pub fn factor_in_sheet(sheet: &[u8], hours: &[u16; 24]) -> Result<u32, Refusal> {
+    let (bytes, length) = (sheet.as_ptr(), sheet.len());
+    let hours = hours.as_ptr();
+    // SAFETY: as for the rise, and 24 hours to read.
+    ask(|answer| unsafe { raw::kechmowad_factor_in_sheet(bytes, length, hours, answer) }).map(whole)
+}
+
 /// The emergency current in whole amperes, at most 10,000, after a preload of h percent
 /// of the rated current, for a limit of r percent of the rated rise and so many minutes.
 /// Refusals 2, 3, 9, 12, 13.
@@ -156,12 +201,50 @@ pub fn current(cable: &Cable, h: u32, r: u32, minutes: u32) -> Result<u32, Refus
     ask(|answer| unsafe { raw::kechmowad_current(fields, h, r, minutes, answer) }).map(whole)
 }
 
+/// The emergency current of a sheet's cable and neighbours. The sheet's refusals, 1 to 8
+/// and 14 to 16, then 9, 12, 13.
+pub fn current_in_sheet(sheet: &[u8], h: u32, r: u32, minutes: u32) -> Result<u32, Refusal> {
+    let (bytes, length) = (sheet.as_ptr(), sheet.len());
+    // SAFETY: as for the rise.
+    ask(|answer| unsafe {
+        raw::kechmowad_current_in_sheet(bytes, length, h, r, minutes, answer);
+    })
+    .map(whole)
+}
+
 /// The bytes of a load sheet: the cable, the starting current in amperes, the first link,
 /// and records of minutes before now, amperes from then on and next link. It checks
-/// nothing: that is for `rise` to do.
+/// nothing: that is for the calls to do.
 pub fn sheet(cable: &Cable, start: u16, first_link: u16, records: &[[u16; 3]]) -> Vec<u8> {
+    written(cable, &[start, first_link], records)
+}
+
+/// The bytes of a sheet with neighbours: behind the first link, which leads to the steps,
+/// stands a second one, which leads to the neighbours. A neighbour's record is its offset to
+/// the side in mm, two's complement (`-200i16 as u16`), its depth in mm and the next link,
+/// which is above its own number or 0.
+///
+/// ```
+/// use kechmowad::{long_sheet, share_in_sheet, Cable};
+///
+/// let cable = Cable::from([500, 1_000, 500, 600_000, 500_000, 1_000, 100, 400]);
+/// let neighbours = [[200, 1_000, 2], [-200i16 as u16, 1_000, 0]];
+/// let three = long_sheet(&cable, 300, 0, 1, &neighbours);
+/// assert!(share_in_sheet(&three, 60)?.high < 300_000);
+/// # Ok::<(), kechmowad::Refusal>(())
+/// ```
+pub fn long_sheet(
+    cable: &Cable,
+    start: u16,
+    first_link: u16,
+    second_link: u16,
+    records: &[[u16; 3]],
+) -> Vec<u8> {
+    written(cable, &[start, first_link, second_link], records)
+}
+
+fn written(cable: &Cable, head: &[u16], records: &[[u16; 3]]) -> Vec<u8> {
     let fields = cable.fields().iter().flat_map(|field| field.to_be_bytes());
-    let head = [start, first_link];
     let rest = head.iter().chain(records.as_flattened());
     fields
         .chain(rest.flat_map(|number| number.to_be_bytes()))
@@ -189,17 +272,27 @@ mod tests {
 
     #[test]
     fn a_null_sheet_without_length_is_refused() {
+        let null = std::ptr::null();
+        let day = [200; 24];
+        let hours = day.as_ptr();
         // SAFETY: the header allows a null sheet where the length is 0.
-        let told = ask(|answer| unsafe { raw::kechmowad_rise(std::ptr::null(), 0, answer) });
+        let told = unsafe {
+            [
+                ask(|answer| raw::kechmowad_rise(null, 0, answer)),
+                ask(|answer| raw::kechmowad_share_in_sheet(null, 0, 60, answer)),
+                ask(|answer| raw::kechmowad_factor_in_sheet(null, 0, hours, answer)),
+                ask(|answer| raw::kechmowad_current_in_sheet(null, 0, 100, 100, 60, answer)),
+            ]
+        };
         let (condition, place) = (Condition::Length, Place::None);
-        assert_eq!(told, Err(Refusal { condition, place }));
+        assert_eq!(told, [Err(Refusal { condition, place }); 4]);
     }
 
     #[test]
     fn what_is_no_answer_is_not_read_as_one() {
         for answer in [
             [-1, -1, -1, -1, -1],
-            [14, 0, 0, 0, 0],
+            [17, 0, 0, 0, 0],
             [0, 1, 1, 5, 6],
             [9, 0, 0, 5, 0],
             [2, 1, 9, 0, 0],

@@ -21,7 +21,7 @@ pub enum Place {
     None,
     /// A field of the cable, 1 to 8.
     Field(u8),
-    /// A record of the sheet, from 1; 0 for the sheet's first link.
+    /// A record of the sheet, from 1; 0 for the sheet's header.
     Record(u8),
     /// An hour of the day, 0 to 23.
     Hour(u8),
@@ -53,8 +53,8 @@ impl Place {
 }
 
 /// Why a calculation is refused: the conditions of the paper's table 'When the desk is told
-/// no', by their numbers. Later versions may have more, so a match on one needs an arm for
-/// the rest:
+/// no' and of note 2, by their numbers. Later versions may have more, so a match on one
+/// needs an arm for the rest:
 ///
 /// ```compile_fail
 /// fn of_a_cable(condition: kechmowad::Condition) -> bool {
@@ -63,6 +63,7 @@ impl Place {
 ///         Field | Rates => true,
 ///         Length | StartingCurrent | Link | RecordMinutes | RecordAmperes | Order => false,
 ///         Minutes | Hour | NoLoad | Percent | TooHot => false,
+///         NeighbourLink | NeighbourPosition | TooNear => false,
 ///     }
 /// }
 /// ```
@@ -70,7 +71,7 @@ impl Place {
 #[non_exhaustive]
 #[repr(u8)]
 pub enum Condition {
-    /// Length is not 36 + 6n, n 0 to 48.
+    /// Length is neither 36 + 6n nor 38 + 6n, n 0 to 48.
     Length = 1,
     /// Field outside its range, first such.
     Field = 2,
@@ -96,11 +97,20 @@ pub enum Condition {
     Percent = 12,
     /// h² above 100·r.
     TooHot = 13,
+    /// Neighbour's link above n or, unless 0, not above the record holding it.
+    NeighbourLink = 14,
+    /// Neighbour's offset beyond 3,000 mm either way, or depth outside 300 to 5,000.
+    NeighbourPosition = 15,
+    /// Neighbour's c below d: its axis nearer to the cable's than the cable's diameter.
+    TooNear = 16,
 }
 
-/// Each condition as the table words it, in the table's order.
-const CONDITIONS: [(Condition, &str); 13] = [
-    (Condition::Length, "length is not 36 + 6n, n 0 to 48"),
+/// Each condition as the paper words it, in the order of the numbers.
+const CONDITIONS: [(Condition, &str); 16] = [
+    (
+        Condition::Length,
+        "length is neither 36 + 6n nor 38 + 6n, n 0 to 48",
+    ),
     (Condition::Field, "field outside its range, first such"),
     (Condition::Rates, "slow rate above fast"),
     (Condition::StartingCurrent, "starting current above 4,000"),
@@ -116,27 +126,36 @@ const CONDITIONS: [(Condition, &str); 13] = [
         "h outside 0 to 200, or r outside 1 to 200",
     ),
     (Condition::TooHot, "h² above 100·r"),
+    (
+        Condition::NeighbourLink,
+        "neighbour's link above n or, unless 0, not above the record holding it",
+    ),
+    (
+        Condition::NeighbourPosition,
+        "neighbour's offset beyond 3,000 mm either way, or depth outside 300 to 5,000",
+    ),
+    (Condition::TooNear, "neighbour's c below d"),
 ];
 
 impl Condition {
-    /// The condition of a number, or nothing where the table has none.
+    /// The condition of a number, or nothing where the paper has none.
     pub fn of(number: u8) -> Option<Condition> {
         let row = usize::from(number).checked_sub(1)?;
         CONDITIONS.get(row).map(|&(condition, _)| condition)
     }
 
-    /// Its number in the table, 1 to 13 as yet.
+    /// Its number, 1 to 16 as yet.
     pub fn number(self) -> u8 {
         self as u8
     }
 
-    /// The table's words.
+    /// The paper's words.
     pub fn words(self) -> &'static str {
         CONDITIONS[usize::from(self.number()) - 1].1
     }
 }
 
-/// A refusal: a condition of the paper's table, and its place.
+/// A refusal: a condition of the paper, and its place.
 #[derive(Debug, Clone, Copy, PartialEq, Eq)]
 pub struct Refusal {
     /// Which condition holds, the first in the paper's order.
@@ -146,7 +165,7 @@ pub struct Refusal {
 }
 
 impl Refusal {
-    /// The condition's number, 1 to 13 as yet: what the programs print.
+    /// The condition's number, 1 to 16 as yet: what the programs print.
     pub fn number(self) -> u8 {
         self.condition.number()
     }
@@ -188,6 +207,6 @@ mod tests {
             assert_eq!(Condition::of(condition.number()), Some(condition));
             assert_eq!(condition.words(), words);
         }
-        assert_eq!([0, 14, 255].map(Condition::of), [None; 3]);
+        assert_eq!([0, 17, 255].map(Condition::of), [None; 3]);
     }
 }

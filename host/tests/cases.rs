@@ -1,7 +1,10 @@
 //! Document 01's cases C1 to C12 through the static library; what is expected stands there.
-//! And days of document 02's note 1, 'The hottest hour'.
+//! And days of document 02's note 1, 'The hottest hour', and trenches of its note 2.
 
-use kechmowad::{current, factor, rise, share, sheet, Bounds, Cable, Place, Refusal};
+use kechmowad::{
+    current, current_in_sheet, factor, factor_in_sheet, long_sheet, rise, share, share_in_sheet,
+    sheet, Bounds, Cable, Place, Refusal,
+};
 
 const A: Cable = Cable {
     diameter: 500,
@@ -120,4 +123,73 @@ fn c11_and_c12_sheets() {
     let more = sheet(&A, 300, 0, &[[0; 3]; 49]);
     assert_eq!(more.len(), 330);
     assert_eq!(rise(&more).unwrap_err().number(), 1);
+}
+
+/// Cable A with neighbours 200 mm to either side at its depth.
+fn three_cables() -> Vec<u8> {
+    let neighbours = [[200, 1_000, 2], [-200i16 as u16, 1_000, 0]];
+    long_sheet(&A, 300, 0, 1, &neighbours)
+}
+
+#[test]
+fn three_cables_in_a_trench() {
+    // Worked out to 60 digits with mpmath: 296,515.003, 507,980.719 and 704,203.133; alone
+    // they would be 340,185.872, 613,897.030 and 792,960.416.
+    let three = three_cables();
+    for (minutes, below) in [(60, 296_515), (360, 507_980), (2_880, 704_203)] {
+        let Bounds { low, high } = share_in_sheet(&three, minutes).unwrap();
+        assert!(low <= below && below < high && high - low <= 50);
+    }
+    // The largest heating sum is 740,304.516, at hour 19; the amperes are 528.863. Every pair
+    // of shares that document 01 allows gives these.
+    let day = [
+        120, 110, 100, 90, 90, 100, 150, 210, 260, 300, 320, 330, 340, 350, 360, 370, 380, 390,
+        400, 400, 380, 300, 220, 160,
+    ];
+    assert_eq!(factor_in_sheet(&three, &day), Ok(1_162));
+    assert_eq!(current_in_sheet(&three, 75, 100, 120), Ok(528));
+}
+
+#[test]
+fn cases_that_neighbours_do_not_change() {
+    let three = three_cables();
+    assert_eq!(rise(&three), STEADY);
+    assert_eq!(factor_in_sheet(&three, &[200; 24]), Ok(1_000));
+    for minutes in MINUTES {
+        assert_eq!(current_in_sheet(&three, 100, 100, minutes), Ok(400));
+        assert_eq!(current_in_sheet(&three, 50, 25, minutes), Ok(200));
+        let told = current_in_sheet(&three, 51, 25, minutes).unwrap_err();
+        assert_eq!((told.number(), told.place), (13, Place::None));
+    }
+}
+
+#[test]
+fn sheets_without_neighbours_answer_as_the_cable_alone() {
+    let records = [[60, 400, 2], [30, 100, 0], [9, 9, 9]];
+    let day = std::array::from_fn(|hour| 40 * hour as u16 % 700);
+    for bytes in [
+        sheet(&A, 300, 1, &records),
+        long_sheet(&A, 300, 1, 0, &records),
+    ] {
+        for minutes in MINUTES {
+            assert_eq!(share_in_sheet(&bytes, minutes), share(&A, minutes));
+            let asked = current_in_sheet(&bytes, 75, 110, minutes);
+            assert_eq!(asked, current(&A, 75, 110, minutes));
+        }
+        assert_eq!(factor_in_sheet(&bytes, &day), factor(&A, &day));
+        assert_eq!(rise(&bytes), rise(&sheet(&A, 300, 1, &records)));
+    }
+}
+
+#[test]
+fn lengths_of_a_long_header() {
+    let most = long_sheet(&A, 300, 0, 0, &[[0; 3]; 48]);
+    assert_eq!(most.len(), 326);
+    assert_eq!(rise(&most), STEADY);
+    let more = long_sheet(&A, 300, 0, 0, &[[0; 3]; 49]);
+    assert_eq!(more.len(), 332);
+    assert_eq!(rise(&more).unwrap_err().number(), 1);
+    let bytes = long_sheet(&A, 300, 0, 0, &[]);
+    assert_eq!(rise(&bytes), STEADY);
+    assert_eq!(rise(&bytes[..37]).unwrap_err().number(), 1);
 }

@@ -1,7 +1,10 @@
-//! The small examples of document 01's table 'When the desk is told no', through the
-//! static library. Number, place and condition are the table's.
+//! The small examples of document 01's table 'When the desk is told no' and of document
+//! 02's note 2, through the static library. Number, place and condition are theirs.
 
-use kechmowad::{current, factor, rise, share, sheet, Cable, Condition, Place, Refusal};
+use kechmowad::{
+    current, current_in_sheet, factor, factor_in_sheet, long_sheet, rise, share, share_in_sheet,
+    sheet, Cable, Condition, Place, Refusal,
+};
 
 /// Cable A of the cases.
 fn cable_a() -> Cable {
@@ -20,8 +23,13 @@ fn told(start: u16, first_link: u16, records: &[[u16; 3]]) -> Option<Refusal> {
     rise(&sheet(&cable_a(), start, first_link, records)).err()
 }
 
-/// The refusal of each number from 1, in the order of the table.
-fn small_examples() -> [Option<Refusal>; 13] {
+/// What a sheet of cable A with neighbours alone is told.
+fn told_trench(second_link: u16, records: &[[u16; 3]]) -> Option<Refusal> {
+    rise(&long_sheet(&cable_a(), 300, 0, second_link, records)).err()
+}
+
+/// The refusal of each number from 1, in their order.
+fn small_examples() -> [Option<Refusal>; 16] {
     let a = cable_a();
     let thin = changed(|cable| cable.diameter = 99);
     let crossed = changed(|cable| (cable.fast_rate, cable.slow_rate) = (100, 101));
@@ -41,6 +49,9 @@ fn small_examples() -> [Option<Refusal>; 13] {
         factor(&a, &[0; 24]).err(),
         current(&a, 201, 100, 60).err(),
         current(&a, 51, 25, 60).err(),
+        told_trench(1, &[]),
+        told_trench(1, &[[3_001, 1_000, 0]]),
+        told_trench(1, &[[200, 1_000, 2], [49, 1_000, 0]]),
     ]
 }
 
@@ -60,6 +71,9 @@ fn each_is_told_its_number_and_place() {
         Place::None,
         Place::Input(1),
         Place::None,
+        Place::Record(0),
+        Place::Record(1),
+        Place::Record(2),
     ];
     for ((told, place), number) in small_examples().into_iter().zip(places).zip(1..) {
         assert_eq!(told.map(Refusal::number), Some(number));
@@ -70,13 +84,27 @@ fn each_is_told_its_number_and_place() {
 #[test]
 fn each_has_words() {
     let words = small_examples().map(|told| told.expect("a refusal").to_string());
-    assert_eq!(words[0], "refused 1: length is not 36 + 6n, n 0 to 48");
+    assert_eq!(
+        words[0],
+        "refused 1: length is neither 36 + 6n nor 38 + 6n, n 0 to 48"
+    );
     assert_eq!(words[4], "refused 5 at record 0: link above n");
     assert_eq!(
         words[9],
         "refused 10 at hour 5: hour above 4,000 A, first such"
     );
     assert_eq!(words[12], "refused 13: h² above 100·r");
+    assert_eq!(
+        words[13],
+        "refused 14 at record 0: \
+         neighbour's link above n or, unless 0, not above the record holding it"
+    );
+    assert_eq!(
+        words[14],
+        "refused 15 at record 1: \
+         neighbour's offset beyond 3,000 mm either way, or depth outside 300 to 5,000"
+    );
+    assert_eq!(words[15], "refused 16 at record 2: neighbour's c below d");
 }
 
 #[test]
@@ -99,10 +127,59 @@ fn a_field_is_told_by_every_call() {
         assert_eq!(rise(&sheet(cable, 300, 0, &[])).err(), told);
         assert_eq!(factor(cable, &[0; 24]).err(), told);
         assert_eq!(current(cable, 201, 0, 0).err(), told);
+        asked_of_sheet(&long_sheet(cable, 4_001, 9, 9, &[]), told);
+    }
+}
+
+/// Share, factor and current of a sheet, asked for what is itself refused.
+fn asked_of_sheet(sheet: &[u8], told: Option<Refusal>) {
+    assert_eq!(share_in_sheet(sheet, 0).err(), told);
+    assert_eq!(factor_in_sheet(sheet, &[0; 24]).err(), told);
+    assert_eq!(current_in_sheet(sheet, 201, 0, 0).err(), told);
+}
+
+#[test]
+fn a_sheets_refusals_precede_those_of_what_is_asked() {
+    let a = cable_a();
+    for bytes in [
+        vec![0; 37],
+        sheet(&a, 4_001, 0, &[]),
+        // A bad load chain, though no step is used.
+        sheet(&a, 300, 1, &[[30, 300, 1]]),
+        long_sheet(&a, 300, 0, 1, &[]),
+        long_sheet(&a, 300, 0, 1, &[[200, 299, 0]]),
+        long_sheet(&a, 300, 0, 1, &[[49, 1_000, 0]]),
+        // Both chains: the load chain's last link comes first.
+        long_sheet(&a, 300, 1, 2, &[[30, 300, 7], [0, 0, 0]]),
+    ] {
+        let told = rise(&bytes).err();
+        assert!(told.is_some());
+        asked_of_sheet(&bytes, told);
     }
 }
 
 #[test]
+fn an_accepted_sheet_is_told_what_is_asked_of_it() {
+    let three = [[200, 1_000, 2], [-200i16 as u16, 1_000, 0]];
+    let three = long_sheet(&cable_a(), 300, 0, 1, &three);
+    let seen = |told: Option<Refusal>| told.map(|refusal| (refusal.number(), refusal.place));
+    let mut hours = [200; 24];
+    hours[5] = 4_001;
+    let hour = Some((10, Place::Hour(5)));
+    assert_eq!(seen(factor_in_sheet(&three, &hours).err()), hour);
+    let none = Some((11, Place::None));
+    assert_eq!(seen(factor_in_sheet(&three, &[0; 24]).err()), none);
+    let late = Some((9, Place::None));
+    assert_eq!(seen(share_in_sheet(&three, 2_881).err()), late);
+    let told = |h, r, minutes| seen(current_in_sheet(&three, h, r, minutes).err());
+    assert_eq!(told(201, 0, 0), late);
+    assert_eq!(told(201, 0, 60), Some((12, Place::Input(1))));
+    assert_eq!(told(51, 25, 60), Some((13, Place::None)));
+}
+
+#[test]
 fn no_bytes_at_all() {
-    assert_eq!(rise(&[]).unwrap_err().number(), 1);
+    let told = rise(&[]).err();
+    assert_eq!(told.map(Refusal::number), Some(1));
+    asked_of_sheet(&[], told);
 }

@@ -1,2 +1,3 @@
 pub mod Parts
-pub mod Cable
+pub mod Sources
+pub mod Group

@@ -8,12 +8,12 @@ use Rattle.bounds.specs.Operations.{pointB, addB, negB, scaledB, timesB, atMost
 use Rattle.bounds.specs.Promises.{Sized, largest, ScaledRoom, TimesRoom, DividedRoom}
 use Rattle.bounds.specs.declared.Bounds.{Bounds}
 use Rattle.bounds.proofs.Pairs.{pair-sized, add-room, less-pair, less-room, times-pair, at-most-pair, divided-room}
-use Rattle.model.specs.Scale.{one, million, betaOne, surfaceOne, betaToSurface, surfaceToShare, attainmentOne}
+use Rattle.model.specs.Scale.{one, million, betaOne, surfaceOne, betaToSurface, surfaceToShare, attainmentOne, exactly}
 use Rattle.model.specs.Exponential.{expPair}
-use Rattle.model.specs.Share.{shareOf}
+use Rattle.model.specs.Share.{beta, surfaceFactor, attainment, shareOf}
 use Rattle.model.specs.Width.{Under}
 use Rattle.model.proofs.Exponential.{exp-at-most-one}
-use Rattle.model.proofs.Share.{lost-at-most-all}
+use Rattle.model.proofs.Share.{beta-at-most-one, surface-at-most-one, lost-at-most-all, attainment-at-most-one}
 use Rattle.series.proofs.UpTo.{pair-up-to, up-to-is}
 use Rattle.series.proofs.Products.{scaled-room-under, times-room-under}
 use Rattle.attained.specs.Asked.{PartOf, FactorAsked}
@@ -92,7 +92,14 @@ module _ (fast slow w : ℕ) (h : w ≤ million) where
 pub risen-room : (p : Pair) → DividedRoom (asBounds (lessP attainmentOne p)) million
 risen-room p = divided-room (lessP attainmentOne p) (omega arith) (omega (arith, less-under attainmentOne p .high))
 
--- ---- the product
+-- ---- the share
+pub factor-asked : {k : ℕ} (j n : Pair) → k ≤ million → FactorAsked (asBounds (exactly k)) (asBounds (beta j n))
+factor-asked {k} j n h = record { k-most = pair-up-to (exactly k) (omega arith); beta-most = pair-up-to (beta j n) (beta-at-most-one j n) }
+
+pub share-room : (k b : Pair) (w fast slow t : ℕ) → ScaledRoom (asBounds (surfaceFactor k b)) (asBounds (attainment w fast slow t)) surfaceToShare
+share-room k b w fast slow t =
+    scaled-room-under surfaceOne one (omega arith) (surface-at-most-one k b) (attainment-at-most-one w fast slow t) tt
+
 pub share-is : (surface attained : Pair) → atMostB (scaledB (asBounds surface) (asBounds attained) surfaceToShare) (pos million) ≡ asBounds (shareOf surface attained)
 unfolding shareOf scaledB
 share-is surface attained = at-most-pair (scaledP surface attained surfaceToShare) million

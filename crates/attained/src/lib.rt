@@ -1,13 +1,22 @@
-// The attained share of accepted numbers, in fixed point. Document 01, 'The attained share'.
+// The attained share of accepted numbers, in fixed point, from the sums of a cable and its neighbours. Document 01, 'The attained share', and
+// document 02, note 2.
 ghost use mathlib.Core.Path.{_≡_};
-ghost use mathlib.Core.List.{[]};
+ghost use Prim.Native.Nat.{_*_};
 ghost use Rattle.bounds.specs.Pair.{asBounds, asPair, lessP};
 ghost use Rattle.bounds.specs.Promises.{QuotientRoom};
-ghost use Rattle.model.specs.Scale.{betaOne};
-ghost use Rattle.model.specs.Share.{beta, surfaceFactor, attainment, attainedShare};
-ghost use Rattle.attained.specs.Asked.{PartOf, FactorAsked, AttainmentAsked, ShareAsked};
+ghost use Rattle.model.specs.Scale.{betaOne, exactly};
+ghost use Rattle.model.specs.Integral.{heatingIntegral};
+ghost use Rattle.model.specs.Share.{beta, surfaceFactor, attainment, shareOf, cableLogarithm};
+ghost use Rattle.attained.specs.Asked.{PartOf, FactorAsked, AttainmentAsked, HeatAsked, CableAsked, JoinAsked, ShareAsked};
+ghost use Rattle.attained.specs.Sums.{asSums, withSource};
 use bounds::Bounds;
 use series::ONE;
+
+// The sources of heat summed so far: the numerator and the divisor of beta, in units of 2^-30.
+pub struct Sums {
+    pub heat: Bounds,
+    pub logarithm: Bounds,
+}
 
 // 1, in millionths: the share, k and the weight of the fast part; and the same as an end of a pair, as below.
 const MILLION: u64 = 1000000;
@@ -69,23 +78,49 @@ fn attainment(w: u64, fast: u64, slow: u64, seconds: u64) -> Bounds
     rest_of(ATTAINMENT_ONE, fast_part.add(slow_part)).divided(MILLION)
 }
 
-// The attained share, in millionths, of the fields of an accepted cable without neighbours, after some seconds.
-pub fn attained_share(
-    d: u64,
-    l: u64,
-    s: u64,
-    k: u64,
-    w: u64,
-    fast: u64,
-    slow: u64,
-    seconds: u64,
-) -> Bounds
-    requires { ⌜ ShareAsked d l s k w fast slow seconds ⌝ }
-    ensures { λ r. ⌜ r ≡ asBounds (attainedShare d l s k w fast slow seconds []) ⌝ }
+// The heating integral from near to far, in units of 2^-30. It does not pass their logarithm, whose high end is its top.
+fn heat_of(near: u64, far: u64, diffusion: u64, logarithm: Bounds) -> Bounds
+    requires { ⌜ HeatAsked near far diffusion logarithm ⌝ }
+    ensures { λ r. ⌜ r ≡ asBounds (heatingIntegral near far diffusion (asPair logarithm .high)) ⌝ }
+{
+    let top = bounds::natural(logarithm.high);
+    integral::heating_integral(near, far, diffusion, top)
+}
+
+// The sums of a cable by itself: d in 0.1 mm, l in mm; diffusion is 8·seconds·s.
+pub fn cable_sums(d: u64, l: u64, diffusion: u64) -> Sums
+    requires { ⌜ CableAsked d l diffusion ⌝ }
+    ensures { λ r. ⌜ r ≡ asSums (heatingIntegral (5 * d * d) (8000 * l * l) diffusion (cableLogarithm d l .high)) (cableLogarithm d l) ⌝ }
 {
     let logarithm = integral::logarithm(d, 40 * l).times(2);
-    let top = bounds::natural(logarithm.high);
-    let heat = integral::heating_integral(5 * d * d, 8000 * l * l, 8 * seconds * s, top);
+    let heat = heat_of(5 * d * d, 8000 * l * l, diffusion, logarithm);
+    Sums { heat, logarithm }
+}
+
+// One neighbour more: near is c², image m², in mm². c²/(4tδ) is 2,000·c² over the diffusion.
+pub fn joined(sums: Sums, near: u64, image: u64, diffusion: u64) -> Sums
+    requires { ⌜ JoinAsked sums near image diffusion ⌝ }
+    ensures { λ r. ⌜ r ≡ withSource diffusion sums (record { near = near; image = image }) ⌝ }
+{
+    let own = integral::logarithm(near, image);
+    let heat = heat_of(2000 * near, 2000 * image, diffusion, own);
+    let heats = sums.heat;
+    let logarithms = sums.logarithm;
+    let heat_sum = heats.add(heat);
+    let logarithm_sum = logarithms.add(own);
+    Sums {
+        heat: heat_sum,
+        logarithm: logarithm_sum,
+    }
+}
+
+// The attained share, in millionths, from a group's sums and its cable's other fields, after some seconds.
+pub fn attained_share(sums: Sums, k: u64, w: u64, fast: u64, slow: u64, seconds: u64) -> Bounds
+    requires { ⌜ ShareAsked sums k w fast slow seconds ⌝ }
+    ensures { λ r. ⌜ r ≡ asBounds (shareOf (surfaceFactor (exactly k) (beta (asPair (sums .heat)) (asPair (sums .logarithm)))) (attainment w fast slow seconds)) ⌝ }
+{
+    let heat = sums.heat;
+    let logarithm = sums.logarithm;
     let surface = surface_factor(Bounds::whole(k), beta(heat, logarithm));
     let attained = attainment(w, fast, slow, seconds);
     surface

@@ -9,9 +9,10 @@ use Rattle.refusals.specs.Ranges.{_to_, orZero, outside}
 use Rattle.refusals.proofs.Ranges.{passed-within, within-passes, Each, none-outside, each-passes}
 use Rattle.cable.specs.Checks.{ranges, fields, outsideField, checked, inUse}
 use Rattle.cable.specs.Stated.{statedCheck}
-use Rattle.exact.specs.Share.{none}
+use mathlib.Core.List.{List}
+use Rattle.exact.specs.Share.{Neighbour, AllInTrench, none}
 use Rattle.cable.specs.Group.{Group, only, accepted, refused, alone, afterCheck, givenCable}
-use Rattle.cable.specs.InRange.{Acceptable, Sound}
+use Rattle.cable.specs.InRange.{numbersIn, Acceptable, Sound}
 use Rattle.cable.specs.declared.Cable.{Cable}
 use Rattle.refusals.specs.declared.Refusal.{Refusal}
 use Rattle.cable.specs.declared.CableCheck.{CableCheck}
@@ -96,6 +97,31 @@ accepted-in-range c e = in-use-acceptable _ (omega arith) (omega arith) c e
 
 pub in-range-accepted : (c : Cable) → Acceptable (alone c) → checked c ≡ Accepted c
 in-range-accepted c a = acceptable-in-use _ (omega arith) (omega arith) c a
+
+-- a cable that is acceptable alone is so with neighbours that may lie beside it
+pub beside-acceptable : (used : Cable) (ns : List Neighbour) → Acceptable (only used) → AllInTrench (numbersIn (record { cable = used; neighbours = ns })) ns → Acceptable (record { cable = used; neighbours = ns })
+beside-acceptable used ns a beside =
+    let n = a .numbers in
+    record {
+      numbers =
+          record {
+            d-from = n .d-from;
+            d-to = n .d-to;
+            l-from = n .l-from;
+            l-to = n .l-to;
+            s-from = n .s-from;
+            s-to = n .s-to;
+            k-to = n .k-to;
+            w-to = n .w-to;
+            fast-from = n .fast-from;
+            fast-to = n .fast-to;
+            slow-from = n .slow-from;
+            slow-to = n .slow-to;
+          };
+      beside = beside;
+      rated-from = a .rated-from;
+      rated-to = a .rated-to;
+    }
 
 -- an accepted cable comes back as it is
 accepted-same : (t u : Bool) (f g : Refusal) (c d : Cable) → cond t (Refused f) (cond u (Refused g) (Accepted c)) ≡ Accepted d → d ≡ c

@@ -22,9 +22,13 @@ only used = record { cable = used; neighbours = [] }
 abbrev pub defaultDiffusivity : ℕ
 defaultDiffusivity = 500
 
--- Document 02, note 2: "without a sheet there are no neighbours". The default is put in here, and nothing after it knows of one.
+-- The default is put in here, and nothing after it knows of one.
+abbrev pub inTrench : Cable → List Neighbour → Group
+inTrench cable neighbours = record { cable = inUse defaultDiffusivity cable; neighbours = neighbours }
+
+-- Document 02, note 2: "without a sheet there are no neighbours"
 abbrev pub alone : Cable → Group
-alone cable = only (inUse defaultDiffusivity cable)
+alone cable = inTrench cable []
 
 pub data Given : Type 0 where
   accepted : Group → Given

@@ -53,18 +53,18 @@ module _ (rated : ℕ) (given : givenCable (ratedA rated) ≡ accepted (alone (r
   unfolding currentOf inUse
   current-given h r = rw (given, currentOf, share-given)
 
-pub C5 : Meant (any-minutes (current cableA 100 100) (values (400 ∷ [])))
+pub C5 : Meant (any-minutes (current (givenCable cableA) 100 100) (values (400 ∷ [])))
 unfolding givenCable checked outsideField currentFrom
 C5 minutes from to = rw (current-given 400 refl minutes from to 100 100, at-limit 400 100 100 400 refl (omega arith) (omega arith) (omega arith) (sharePair (alone cableA) minutes .high) (high-some 400 refl minutes from to))
 
-pub C6 : Meant (any-minutes (current cableA 50 25) (values (200 ∷ [])))
+pub C6 : Meant (any-minutes (current (givenCable cableA) 50 25) (values (200 ∷ [])))
 unfolding givenCable checked outsideField currentFrom
 C6 minutes from to = rw (current-given 400 refl minutes from to 50 25, at-limit 400 50 25 200 refl (omega arith) (omega arith) (omega arith) (sharePair (alone cableA) minutes .high) (high-some 400 refl minutes from to))
 
-pub C7 : Meant (any-minutes (current cableA 51 25) (refusal 13 None))
+pub C7 : Meant (any-minutes (current (givenCable cableA) 51 25) (refusal 13 None))
 unfolding givenCable checked outsideField currentFrom
 C7 minutes from to = rw (current-given 400 refl minutes from to 51 25)
 
-pub C8 : Meant (any-minutes (current (ratedA 401) 50 25) (values (200 ∷ [])))
+pub C8 : Meant (any-minutes (current (givenCable (ratedA 401)) 50 25) (values (200 ∷ [])))
 unfolding givenCable checked outsideField currentFrom
 C8 minutes from to = rw (current-given 401 refl minutes from to 50 25, at-limit 401 50 25 200 refl (omega arith) (omega arith) (omega arith) (sharePair (alone (ratedA 401)) minutes .high) (high-some 401 refl minutes from to))

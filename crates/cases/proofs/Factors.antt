@@ -110,7 +110,7 @@ factor-of-one : largestFactor (pos 1000000) ≡ 1000
 unfolding allowed
 factor-of-one = sym (found-largest (allowed-falls (pos 1000000)) (omega arith) refl (λ h. refl))
 
-pub C3 : Meant (gives (factor cableA (replicate 24 200)) (values (1000 ∷ [])))
+pub C3 : Meant (gives (factor (givenCable cableA) (replicate 24 200)) (values (1000 ∷ [])))
 unfolding givenCable checked outsideField
 C3 =
     let pairs = hourPair (alone cableA) in
@@ -195,7 +195,7 @@ accepted-day hour h =
     let t : highestLoad hours ≡ 400 = cc in
     record { none-above = cc; some = some-load (allZero hours) z; loaded = omega arith }
 
-pub C4 : Meant (any-hour (λ hour. factor cableB (oneHour hour 400)) (values (999 ∷ [])))
+pub C4 : Meant (any-hour (λ hour. factor (givenCable cableB) (oneHour hour 400)) (values (999 ∷ [])))
 unfolding givenCable checked outsideField
 C4 hour from to =
     let pairs = hourPair (alone cableB) in

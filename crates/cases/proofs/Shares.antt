@@ -102,7 +102,7 @@ accepted-slow : Accepted (numbersIn (alone slowB)) 1
 unfolding inUse
 accepted-slow = record { cable = omega arith; neighbours = none; minutes-from = omega arith; minutes-to = omega arith }
 
-pub C9 : Meant (around (Table.share cableB 1) 997521 997522)
+pub C9 : Meant (around (Table.share (givenCable cableB) 1) 997521 997522)
 unfolding inUse _∸_ givenCable shareFrom checked outsideField
 C9 =
     let a = accepted-B 1 (omega arith) (omega arith) in
@@ -115,7 +115,7 @@ C9 =
       high-from = high-over _ 1 a _ p refl 30 tt 997521 (below _ _ tt);
     }
 
-pub C10 : Meant (around (Table.share slowB 1) 59 60)
+pub C10 : Meant (around (Table.share (givenCable slowB) 1) 59 60)
 unfolding inUse _∸_ givenCable shareFrom checked outsideField
 C10 =
     let p = share-promised (alone slowB) 1 accepted-slow in

@@ -1,5 +1,5 @@
 -- Demand 3 in document 01's own numbers: the widths, the caps, the limits, the certifying rule and the default stand here once more, written out, from 'The
--- attained share', 'The emergency current' and 'What the distances say'; and the 24 hours of document 02, note 1. `proofs/Demands` takes every quoted line from the
+-- attained share', 'The emergency current' and 'What the distances say'; and the 24 hours and the neighbours of document 02, notes 1 and 2. `proofs/Demands` takes every quoted line from the
 -- contract of its call, so a contract that says less is refused there. A call that is added gets its sentences here, and a number that changes is changed here too.
 use mathlib.Core.Path.{_≡_, refl}
 use mathlib.Core.List.{List, [], _∷_}
@@ -9,14 +9,14 @@ use lib.IntN.{ℤ, pos, sucℤ, _+ℤ_, _-ℤ_, _*ℤ_}
 use lib.Signed.{_≤ℤ_}
 use Rattle.numbers.specs.Signed.{ofInt}
 use Rattle.exact.specs.Value.{Value, AtMost, AtLeast, fromOne, inMillionths, integer, _+ᵥ_, _·ᵥ_, largestᵥ}
-use Rattle.exact.specs.Share.{share}
+use Rattle.exact.specs.Share.{CableNumbers, Neighbour, share}
 use Rattle.cable.specs.Checks.{inUse}
-use Rattle.cable.specs.Group.{only}
 use Rattle.cable.specs.InRange.{numbersIn}
 use Rattle.cable.specs.declared.Cable.{Cable}
 use Rattle.share.specs.Promises.{MillionthGap}
 use Rattle.sheet.specs.Header.{cableOf, startingCurrent}
 use Rattle.sheet.specs.Chain.{Step, steps, chainOf}
+use Rattle.sheet.specs.Neighbours.{neighboursIn, trenchOf}
 use Rattle.history.specs.Exact.{exactRise, changes}
 use Rattle.history.specs.Answer.{stepsOf}
 use Rattle.cycle.specs.Exact.{exactHeating}
@@ -25,29 +25,34 @@ use Rattle.cycle.specs.Exact.{exactHeating}
 pub record Bounded (x : Value) : Type 0 where
   pub bounds : (n : ℕ) → T (fromOne n) → T (x .ok n)
 
--- The exact G of a cable after some minutes, in millionths; a diffusivity of 0 "stands for 500".
-abbrev pub exactG : Cable → ℕ → Value
-exactG cable minutes = inMillionths (share (numbersIn (only (inUse 500 cable))) minutes)
+-- A cable and its neighbours in the trench, none without a sheet, as plain numbers; a diffusivity of 0 "stands for 500".
+abbrev pub numbersOf : Cable → List Neighbour → CableNumbers
+numbersOf cable beside = numbersIn (record { cable = inUse 500 cable; neighbours = beside })
+
+-- The exact G after some minutes, in millionths.
+abbrev pub exactG : Cable → List Neighbour → ℕ → Value
+exactG cable beside minutes = inMillionths (share (numbersOf cable beside) minutes)
 
 -- ---- the share of a cable after some minutes
 
--- "a pair, low and high, in millionths: 0 ≤ low ≤ high ≤ 1,000,000, the exact G between them, high − low at most 50"
-pub record ShareDemand (cable : Cable) (minutes : ℕ) (low high : ℤ) : Type 0 where
+-- "a pair, low and high, in millionths: 0 ≤ low ≤ high ≤ 1,000,000, the exact G between them, high − low at most 50". Document 02, note 2: "The share keeps its
+-- 50 millionths for any neighbours"
+pub record ShareDemand (cable : Cable) (beside : List Neighbour) (minutes : ℕ) (low high : ℤ) : Type 0 where
   pub from-0 : pos 0 ≤ℤ low
   pub ordered : low ≤ℤ high
   pub to-million : high ≤ℤ pos 1000000
-  pub low-at-most : AtMost (ofInt low) (exactG cable minutes)
-  pub high-at-least : AtLeast (ofInt high) (exactG cable minutes)
+  pub low-at-most : AtMost (ofInt low) (exactG cable beside minutes)
+  pub high-at-least : AtLeast (ofInt high) (exactG cable beside minutes)
   pub within-50 : high ≤ℤ (low +ℤ pos 50)
-  pub bounded : Bounded (exactG cable minutes)
+  pub bounded : Bounded (exactG cable beside minutes)
   -- "for every accepted cable and minute count some order has a gap below one millionth"
-  pub some-gap : MillionthGap (share (numbersIn (only (inUse 500 cable))) minutes)
+  pub some-gap : MillionthGap (share (numbersOf cable beside) minutes)
 
 -- ---- the rise of a sheet
 
 -- the exact rise
 abbrev pub riseOfSheet : List ℕ → Value
-riseOfSheet s = exactRise (exactG (cableOf s)) (startingCurrent s) (cableOf s .rated) (stepsOf (chainOf s))
+riseOfSheet s = exactRise (exactG (cableOf s) (neighboursIn (trenchOf s))) (startingCurrent s) (cableOf s .rated) (stepsOf (chainOf s))
 
 -- D, "the sum over the chain's steps of the size of amperes² − previous amperes², 0 with no steps"
 abbrev pub changesOfSheet : List ℕ → ℕ
@@ -81,14 +86,14 @@ pub record RiseDemand (s : List ℕ) (low high : ℤ) : Type 0 where
 
 -- "let T be the exact heating sum in millionths". Document 02, note 1: "The factor rule now speaks of the largest exact sum, at the same distance."
 -- The largest of hours 0 to 23.
-abbrev pub heatingOf : Cable → List ℕ → Value
-heatingOf cable hours = largestᵥ (exactHeating (exactG cable) hours) 24
+abbrev pub heatingOf : Cable → List Neighbour → List ℕ → Value
+heatingOf cable beside hours = largestᵥ (exactHeating (exactG cable beside) hours) 24
 
 -- "m²·T is at most 10^12. If m is below 5,000, each larger whole number, squared and times T + 301, is at least 10^12 + 1."
-pub record FactorDemand (cable : Cable) (hours : List ℕ) (m : ℕ) : Type 0 where
-  pub not-above : AtLeast (ofInt (pos 1000000000000)) (integer (pos (m * m)) ·ᵥ heatingOf cable hours)
-  pub larger-above : m < 5000 → (k : ℕ) → m < k → AtMost (ofInt (pos 1000000000001)) (integer (pos (k * k)) ·ᵥ (heatingOf cable hours +ᵥ integer (pos 301)))
-  pub bounded : Bounded (heatingOf cable hours)
+pub record FactorDemand (cable : Cable) (beside : List Neighbour) (hours : List ℕ) (m : ℕ) : Type 0 where
+  pub not-above : AtLeast (ofInt (pos 1000000000000)) (integer (pos (m * m)) ·ᵥ heatingOf cable beside hours)
+  pub larger-above : m < 5000 → (k : ℕ) → m < k → AtMost (ofInt (pos 1000000000001)) (integer (pos (k * k)) ·ᵥ (heatingOf cable beside hours +ᵥ integer (pos 301)))
+  pub bounded : Bounded (heatingOf cable beside hours)
   -- a law beside the promise: the largest of the 24 sums is at least 1/24, so the cap of 5,000 never binds
   pub below-cap : m ≤ 4898
 
@@ -103,8 +108,8 @@ mostRise rated h r = (pos (100 * r) -ℤ pos (h * h)) *ℤ pos (rated * rated * 
 
 -- "the certifying rule, written in whole numbers as above, holds with the exact G in millionths for g. If i is below 10,000, each larger whole ampere breaks it
 -- with the exact G in millionths plus 50 for g: the left side is at least 1 above the right."
-pub record CurrentDemand (cable : Cable) (h r minutes i : ℕ) : Type 0 where
-  pub keeps : AtLeast (ofInt (mostRise (cable .rated) h r)) (integer (loadRise (cable .rated) h i) ·ᵥ exactG cable minutes)
+pub record CurrentDemand (cable : Cable) (beside : List Neighbour) (h r minutes i : ℕ) : Type 0 where
+  pub keeps : AtLeast (ofInt (mostRise (cable .rated) h r)) (integer (loadRise (cable .rated) h i) ·ᵥ exactG cable beside minutes)
   pub larger-breaks : i < 10000 → (j : ℕ) → i < j
-      → AtMost (ofInt (sucℤ (mostRise (cable .rated) h r))) (integer (loadRise (cable .rated) h j) ·ᵥ (exactG cable minutes +ᵥ integer (pos 50)))
-  pub bounded : Bounded (exactG cable minutes)
+      → AtMost (ofInt (sucℤ (mostRise (cable .rated) h r))) (integer (loadRise (cable .rated) h j) ·ᵥ (exactG cable beside minutes +ᵥ integer (pos 50)))
+  pub bounded : Bounded (exactG cable beside minutes)

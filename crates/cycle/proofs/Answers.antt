@@ -14,11 +14,11 @@ use Rattle.bounds.specs.Promises.{Sized}
 use Rattle.bounds.specs.declared.Bounds.{Bounds}
 use Rattle.refusals.specs.declared.Refusal.{Refusal}
 use Rattle.refusals.proofs.Ranges.{within-passes}
-use Rattle.cable.specs.Group.{Group, Given, accepted, refused}
+use Rattle.cable.specs.Group.{Group, Given, refused}
 use Rattle.share.specs.Answer.{mostMinutes, shareFrom}
 use Rattle.share.specs.declared.ShareAnswer.the-variants as S
 use Rattle.share.proofs.Answers.{share-given}
-use Rattle.share.proofs.Promises.{share-pair-range}
+use Rattle.share.proofs.Promises.{share-pair-range, answered-pair}
 use Rattle.cycle.specs.Day.{dayHours, highestLoad}
 use Rattle.cycle.specs.Heating.{heatingHours, heatingSum, referenceHour}
 use Rattle.cycle.specs.Factor.{largestFactor}
@@ -38,6 +38,10 @@ module _ (g : Group) (i : ℕ) where
   hour-given h =
       sym (share-given g (60 * (i + 1)) (within-passes 1 mostMinutes (60 * (i + 1)) (omega arith) (omega arith)))
       ∙ ap (λ (hour : ℕ). S.Pair (hourPair g hour)) (add-one i)
+
+  -- and no other pair
+  pub hour-answered : {p : Bounds} → shareFrom g (60 * (i + 1)) ≡ S.Pair p → p ≡ hourPair g (suc i)
+  hour-answered e = answered-pair g (60 * (i + 1)) e ∙ ap (hourPair g) (add-one i)
 
   pub hour-not-refused : {f : Refusal} → i < heatingHours → shareFrom g (60 * (i + 1)) ≡ S.Refused f → ⊥
   hour-not-refused h q = let z : _≡_ {A = ℕ} 0 1 = cc (hour-given h) in omega arith
@@ -68,8 +72,8 @@ module _ (pairs : ℕ → Bounds) (hours : List ℕ) where
         q ∙ rw (factorFrom, ← p, le-ltb k dayHours none, some)
 
 -- what is given decides
-pub answer-accepted : {given : Given} (hours : List ℕ) {g : Group} {r : FactorAnswer} → given ≡ accepted g → r ≡ factorFrom (hourPair g) hours → r ≡ factorAnswer given hours
-answer-accepted hours e q = rw e q
+pub answer-given : {given is : Given} (hours : List ℕ) {r : FactorAnswer} → given ≡ is → r ≡ factorAnswer is hours → r ≡ factorAnswer given hours
+answer-given hours e q = rw e q
 
 pub answer-refused : {given : Given} (hours : List ℕ) {f : Refusal} → given ≡ refused f → Refused f ≡ factorAnswer given hours
 answer-refused hours e = rw e

@@ -45,18 +45,18 @@ unfolding latestLargest
 latest-same f g e zero = refl
 latest-same f g e (suc n) = rw (latest-same f g e n, e n, e (latestLargest g n)) refl
 
-module _ {g : Group} {shares : List Bounds} (f : Filled g shares heatingHours) (hours : List ℕ) where
+module _ {g : Group} {shares : List Bounds} {n : ℕ} (f : Filled g shares n) (all : heatingHours ≤ n) (hours : List ℕ) where
   pub filled-shared : 0 < highestLoad hours → Shared shares hours
   filled-shared z = record { sized = λ i. by i (ltb i heatingHours) refl; loaded = z }
     where
       by : (i : ℕ) (t : Bool) → ltb i heatingHours ≡ t → Sized 1000000 (pairsOf shares (suc i))
-      by i true e = rw (f .filled i (ltb-true i heatingHours e)) (hour-sized g (suc i))
+      by i true e = rw (f .filled i (omega (arith, ltb-true i heatingHours e))) (hour-sized g (suc i))
       by i false e = rw (List·getD-eq-default shares (pointB (pos 0)) {n = i} (omega (arith, f .six, ltb-false i heatingHours e))) (record { low = omega arith; high = omega arith })
 
-  same-gathered : (hour n : ℕ) → n ≤ heatingHours → gatheredBounds hours hour (pairsOf shares) n ≡ gatheredBounds hours hour (hourPair g) n
+  same-gathered : (hour i : ℕ) → i ≤ heatingHours → gatheredBounds hours hour (pairsOf shares) i ≡ gatheredBounds hours hour (hourPair g) i
   unfolding gatheredBounds
   same-gathered hour zero h = refl
-  same-gathered hour (suc n) h = rw (same-gathered hour n (omega arith), f .filled n (omega arith)) refl
+  same-gathered hour (suc i) h = rw (same-gathered hour i (omega arith), f .filled i (omega arith)) refl
 
   same-heating : (hour : ℕ) → heatingBounds (pairsOf shares) hours hour ≡ heatingBounds (hourPair g) hours hour
   unfolding heatingBounds

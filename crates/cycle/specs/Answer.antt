@@ -1,4 +1,5 @@
--- Document 01, 'The daily cycle' and 'When the desk is told no': the answer of a cyclic factor, in the order 2, 3, 10, 11.
+-- Document 01, 'The daily cycle' and 'When the desk is told no': the answer of a cyclic factor, in the order 2, 3, 10, 11. Document 02, note 2:
+-- of a sheet, "whose refusals then precede their own".
 use mathlib.Core.Path.{_≡_}
 use mathlib.Core.Bool.{Bool, true, cond, _&&_}
 use mathlib.Core.List.{List, [], _∷_}

@@ -7,15 +7,14 @@ use lib.ListN.{getD}
 use Rattle.bounds.specs.Operations.{pointB}
 use Rattle.bounds.specs.Promises.{Sized}
 use Rattle.bounds.specs.declared.Bounds.{Bounds}
-use Rattle.cable.specs.Group.{only}
-use Rattle.cable.specs.InRange.{Acceptable}
-use Rattle.cable.specs.declared.Cable.{Cable}
+use Rattle.sheet.specs.Sheet.{Laid}
+use Rattle.sheet.specs.declared.whole.Trench.{Trench}
 use Rattle.cycle.specs.Day.{dayHours, highestLoad, squaredLoads}
 use Rattle.cycle.specs.Heating.{commonDivisor, million}
 
--- An accepted cable in use, and check 11 passed.
-pub record Ready (used : Cable) (hours : List ℕ) : Type 0 where
-  pub accepted : Acceptable (only used)
+-- An accepted cable in use with its neighbours, and check 11 passed.
+pub record Ready (s : List ℕ) (t : Trench) (hours : List ℕ) : Type 0 where
+  pub laid : Laid s t
   pub loaded : 0 < highestLoad hours
 
 -- The pairs of six shares in a list, as G(1), G(2), ..

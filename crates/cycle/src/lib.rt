@@ -1,26 +1,27 @@
-// The cyclic rating factor of a cable: document 01, 'The daily cycle', with the reference hour of document 02, note 1, 'The hottest hour'.
+// The cyclic rating factor of a cable: document 01, 'The daily cycle', with the reference hour of document 02, note 1, 'The hottest hour'; and note 2.
 ghost use mathlib.Core.Path.{_≡_};
 ghost use Prim.Native.Nat.{_≤_, _<_};
 ghost use Rattle.bounds.specs.Operations.{pointB};
 ghost use Rattle.bounds.specs.Promises.{Sized};
 ghost use Rattle.refusals.specs.Apart.{partsOf};
-ghost use Rattle.cable.specs.Group.{only, givenCable};
-ghost use Rattle.cable.specs.InRange.{Acceptable};
+ghost use Rattle.cable.specs.Group.{givenCable};
+ghost use Rattle.sheet.specs.Sheet.{givenSheet, groupIn, asGivenIn, Laid, OnlyLaid};
 ghost use Rattle.cycle.specs.Day.{dayHours, highestLoad, squaredLoads};
 ghost use Rattle.cycle.specs.Heating.{heatingHours, relativeLoad, gatheredLoad, heatingBounds, heatingSum, referenceHour};
 ghost use Rattle.cycle.specs.Factor.{mostFactor, allowed, largestFactor};
-ghost use Rattle.cycle.specs.Answer.{firstAbove, factorFrom, hourPair, statedFactor, FactorSaid};
+ghost use Rattle.cycle.specs.Answer.{firstAbove, factorFrom, factorAnswer, hourPair, statedFactor, FactorSaid};
 ghost use Rattle.cycle.specs.Asked.{Ready, Shared, AtHour, DivisorOf, pairsOf, mostDivisor, mostSum};
 ghost use Rattle.cycle.specs.declared.FactorAnswer.the-variants.{Factor};
 use bounds::Bounds;
 use cable::Cable;
-use cable::CableCheck;
 use refusals::Parts;
 use refusals::Place;
 use refusals::Refusal;
 use share::ShareAnswer;
+use sheet::Trench;
+use sheet::TrenchCheck;
 
-// The factor in thousandths, or the first refusal in the order 2, 3, 10, 11.
+// The factor in thousandths, or the first refusal: of the cable or the sheet, then 10, 11.
 pub enum FactorAnswer {
     Factor(u32),
     Refused(Refusal),
@@ -52,17 +53,31 @@ const MOST_HEATING: i64 = 1000000000000;
 pub fn factor(cable: Cable, hours: [u16; DAY_HOURS]) -> FactorAnswer
     ensures { λ r. ⌜ FactorSaid (givenCable cable) hours r ⌝ }
 {
-    let checked = cable::given(cable);
-    match checked {
-        CableCheck::Accepted(used) => factor_of(used, hours),
-        CableCheck::Refused(refusal) => FactorAnswer::Refused(refusal),
+    factor_given(b"", sheet::given_alone(cable), hours)
+}
+
+// The factor of the cable of a sheet, with its neighbours. The sheet is only read.
+pub fn factor_in_sheet(sheet: &[u8], hours: [u16; DAY_HOURS]) -> FactorAnswer
+    ensures { λ r. ⌜ FactorSaid (givenSheet (now (sheet .entry))) hours r ⌝ }
+{
+    factor_given(sheet, sheet::given(sheet), hours)
+}
+
+// The factor of what is given, or the refusal of what was handed in.
+fn factor_given(sheet: &[u8], given: TrenchCheck, hours: [u16; DAY_HOURS]) -> FactorAnswer
+    requires { ⌜ OnlyLaid (now sheet) given ⌝ }
+    ensures { λ r. ⌜ r ≡ factorAnswer (asGivenIn (now (sheet .entry)) given) hours ⌝ }
+{
+    match given {
+        TrenchCheck::Accepted(trench) => factor_of(sheet, trench, hours),
+        TrenchCheck::Refused(refusal) => FactorAnswer::Refused(refusal),
     }
 }
 
-// The factor of an accepted cable in use: refusal 10, refusal 11, or the factor.
-pub fn factor_of(used: Cable, hours: [u16; DAY_HOURS]) -> FactorAnswer
-    requires { ⌜ Acceptable (only used) ⌝ }
-    ensures { λ r. ⌜ r ≡ factorFrom (hourPair (only used)) hours ⌝ }
+// The factor of an accepted cable in use and its neighbours: refusal 10, refusal 11, or the factor. Without a sheet there are no bytes, and the link is 0.
+pub fn factor_of(sheet: &[u8], trench: Trench, hours: [u16; DAY_HOURS]) -> FactorAnswer
+    requires { ⌜ Laid (now sheet) trench ⌝ }
+    ensures { λ r. ⌜ r ≡ factorFrom (hourPair (groupIn (now (sheet .entry)) trench)) hours ⌝ }
 {
     let above = first_above(hours);
     if above < DAY_HOURS {
@@ -77,7 +92,7 @@ pub fn factor_of(used: Cable, hours: [u16; DAY_HOURS]) -> FactorAnswer
             place: Place::None,
         });
     }
-    factor_of_day(used, hours)
+    factor_of_day(sheet, trench, hours)
 }
 
 // What an answer states.
@@ -91,14 +106,14 @@ pub fn parts(answer: FactorAnswer) -> Parts
 }
 
 // The factor of a day. The six shares, at hours of 60 minutes, are worked out once for all 24 hours.
-fn factor_of_day(used: Cable, hours: [u16; DAY_HOURS]) -> FactorAnswer
-    requires { ⌜ Ready used hours ⌝ }
-    ensures { λ r. ⌜ r ≡ Factor (largestFactor (heatingSum (hourPair (only used)) hours (referenceHour (hourPair (only used)) hours))) ⌝ }
+fn factor_of_day(sheet: &[u8], trench: Trench, hours: [u16; DAY_HOURS]) -> FactorAnswer
+    requires { ⌜ Ready (now sheet) trench hours ⌝ }
+    ensures { λ r. ⌜ r ≡ Factor (largestFactor (heatingSum (hourPair (groupIn (now (sheet .entry)) trench)) hours (referenceHour (hourPair (groupIn (now (sheet .entry)) trench)) hours))) ⌝ }
 {
     let none = Bounds::whole(0);
     let mut shares = [none; HEATING_HOURS];
     for i in 0..HEATING_HOURS {
-        let answer = share::share_of(used, HOUR * (i as u32 + 1));
+        let answer = share::share_of(sheet, trench, HOUR * (i as u32 + 1));
         let ShareAnswer::Pair(pair) = answer else {
             return FactorAnswer::Refused(refusals::refusal_in(share::parts(answer)));
         };

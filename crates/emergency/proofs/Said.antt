@@ -9,6 +9,7 @@ use lib.Dec.{T}
 use lib.IntN.{pos}
 use Rattle.exact.specs.Value.{fromOne}
 use Rattle.exact.specs.Share.{Accepted}
+use Rattle.bounds.specs.declared.Bounds.{Bounds}
 use Rattle.refusals.specs.Ranges.{outside, _to_}
 use Rattle.refusals.specs.Stated.{statedValues}
 use Rattle.refusals.proofs.Stated.{same-values, no-values}
@@ -19,7 +20,7 @@ use Rattle.share.specs.Promises.{widthOf, exactShare}
 use Rattle.share.specs.Answer.{shareFrom}
 use Rattle.share.specs.declared.ShareAnswer.{ShareAnswer}
 use Rattle.share.specs.declared.ShareAnswer.the-variants as S
-use Rattle.share.proofs.Promises.{answered-accepted}
+use Rattle.share.proofs.Promises.{answered-pair, answered-accepted}
 use Rattle.share.proofs.Rising.{share-enclosed, exact-share-bounds}
 use Rattle.emergency.specs.Certifying.{largestCertified}
 use Rattle.emergency.specs.Exact.{CurrentDistance}
@@ -42,11 +43,15 @@ record Reported (g : Group) (h r minutes i : ℕ) : Type 0 where
   largest-is : i ≡ largestCertified (g .cable .rated) h r (sharePair g minutes .high)
 
 module _ (g : Group) (acceptable : Acceptable g) (h r minutes : ℕ) {i : ℕ} where
-  from-share : (s : ShareAnswer) → shareFrom g minutes ≡ s → afterShare s (currentFrom (g .cable .rated) h r (sharePair g minutes)) ≡ Current i → Reported g h r minutes i
+  from-share : (s : ShareAnswer) → shareFrom g minutes ≡ s → afterShare (g .cable .rated) h r s ≡ Current i → Reported g h r minutes i
   unfolding currentFrom
   from-share (S.Pair p) given e =
       let passed = reported-largest (outside (0 to mostPercent) h) (outside (1 to mostPercent) r) (tooHot h r) e in
-      record { accepted = answered-accepted g minutes given acceptable; cool = ltb-false (100 * r) (h * h) (passed .0); largest-is = passed .1 }
+      record {
+        accepted = answered-accepted g minutes given acceptable;
+        cool = ltb-false (100 * r) (h * h) (passed .0);
+        largest-is = passed .1 ∙ ap (λ (b : Bounds). largestCertified (g .cable .rated) h r (b .high)) (answered-pair g minutes given);
+      }
   from-share (S.Refused f) given e = let z : _≡_ {A = ℕ} 0 1 = cc in absurd (omega arith)
 
   of-current : currentOf g h r minutes ≡ Current i → Reported g h r minutes i

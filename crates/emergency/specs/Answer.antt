@@ -1,4 +1,5 @@
--- Document 01, 'The emergency current' and 'When the desk is told no': the answer of an emergency current, in the order 2, 3, 9, 12, 13.
+-- Document 01, 'The emergency current' and 'When the desk is told no': the answer of an emergency current, in the order 2, 3, 9, 12, 13. Document
+-- 02, note 2: of a sheet, "whose refusals then precede their own".
 use mathlib.Core.Path.{_≡_}
 use mathlib.Core.Bool.{Bool, cond}
 use mathlib.Core.List.{[], _∷_}
@@ -43,14 +44,14 @@ currentFrom rated h r pair =
     (cond (tooHot h r) (Refused refused13)
     (Current (largestCertified rated h r (pair .high)))))
 
--- what follows where the share is given: "A refusal of the share inside another calculation passes out unchanged."
-abbrev pub afterShare : ShareAnswer → CurrentAnswer → CurrentAnswer
-afterShare (S.Pair b) answer = answer
-afterShare (S.Refused f) answer = Refused f
+-- from what the share answers: "A refusal of the share inside another calculation passes out unchanged."
+abbrev pub afterShare : ℕ → ℕ → ℕ → ShareAnswer → CurrentAnswer
+afterShare rated h r (S.Pair pair) = currentFrom rated h r pair
+afterShare rated h r (S.Refused f) = Refused f
 
 -- of an accepted group: 9, 12, 13
 unfoldable pub currentOf : Group → ℕ → ℕ → ℕ → CurrentAnswer
-currentOf g h r minutes = afterShare (shareFrom g minutes) (currentFrom (g .cable .rated) h r (sharePair g minutes))
+currentOf g h r minutes = afterShare (g .cable .rated) h r (shareFrom g minutes)
 
 -- the refusal of what was handed in comes first
 abbrev pub currentAnswer : Given → ℕ → ℕ → ℕ → CurrentAnswer

@@ -1,5 +1,12 @@
 -- What the functions below `current` ask of their numbers.
+use mathlib.Core.Path.{_≡_}
 use Prim.Native.Nat.{ℕ, _≤_}
+use Rattle.bounds.specs.declared.Bounds.{Bounds}
+use Rattle.sheet.specs.declared.whole.TrenchCheck.{TrenchCheck}
+use Rattle.sheet.specs.declared.whole.TrenchCheck.the-variants.{Accepted, Refused}
+use Rattle.distance.specs.Promised.{Millionths}
+use Rattle.share.specs.declared.ShareAnswer.{ShareAnswer}
+use Rattle.share.specs.declared.ShareAnswer.the-variants.{Pair}
 use Rattle.emergency.specs.Certifying.{million}
 use Rattle.emergency.specs.Answer.{mostPercent}
 
@@ -9,3 +16,12 @@ pub record InRange (rated h r g : ℕ) : Type 0 where
   pub preload-to : h ≤ mostPercent
   pub limit-to : r ≤ mostPercent
   pub share-to : g ≤ million
+
+-- The rated current of what is given, 0 where it is refused.
+abbrev pub ratedOf : TrenchCheck → ℕ
+ratedOf (Accepted t) = t .cable .rated
+ratedOf (Refused f) = 0
+
+-- Where the share is a pair, that and the rated current of its cable are in their ranges.
+abbrev pub Rated : ℕ → ShareAnswer → Type 0
+Rated rated answer = (pair : Bounds) → answer ≡ Pair pair → (rated ≤ 2000) × Millionths pair

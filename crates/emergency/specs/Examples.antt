@@ -148,7 +148,7 @@ minutes-before-preload : currentAnswer (givenCable (cableA 500 100)) 201 0 2881 
 unfolding givenCable checked outsideField currentOf shareFrom
 minutes-before-preload = refl
 
-share-first : afterShare (S.Refused refused9) (currentFrom 400 201 100 (pair 0 1000000)) ≡ Refused refused9
+share-first : afterShare 400 201 100 (S.Refused refused9) ≡ Refused refused9
 share-first = refl
 
 limit-before-heat : currentFrom 400 1 0 (pair 0 1000000) ≡ Refused (refused12 2)

@@ -1,24 +1,24 @@
-// The emergency current of a cable: document 01, 'The emergency current'.
+// The emergency current of a cable: document 01, 'The emergency current'; document 02, note 2.
 ghost use mathlib.Core.Path.{_≡_};
 ghost use Prim.Native.Nat.{_*_, _≤_};
 ghost use lib.IntN.{pos};
 ghost use Rattle.numbers.specs.Integer.{up};
 ghost use Rattle.refusals.specs.Apart.{partsOf};
-ghost use Rattle.cable.specs.Group.{only, givenCable};
-ghost use Rattle.cable.specs.InRange.{Acceptable};
+ghost use Rattle.cable.specs.Group.{givenCable};
+ghost use Rattle.sheet.specs.Sheet.{givenSheet};
 ghost use Rattle.distance.specs.Promised.{Millionths};
-ghost use Rattle.emergency.specs.Asked.{InRange};
+ghost use Rattle.emergency.specs.Asked.{InRange, Rated, ratedOf};
 ghost use Rattle.emergency.specs.Certifying.{steadyLimit, certified, largestCertified, mostCurrent};
-ghost use Rattle.emergency.specs.Answer.{currentOf, statedCurrent, CurrentSaid};
+ghost use Rattle.emergency.specs.Answer.{afterShare, statedCurrent, CurrentSaid};
 use bounds::Bounds;
 use cable::Cable;
-use cable::CableCheck;
 use refusals::Parts;
 use refusals::Place;
 use refusals::Refusal;
 use share::ShareAnswer;
+use sheet::TrenchCheck;
 
-// The largest certified whole amperes, or the first refusal in the order 2, 3, 9, 12, 13.
+// The largest certified whole amperes, or the first refusal: of the cable or the sheet, then 9, 12, 13.
 pub enum CurrentAnswer {
     Current(u32),
     Refused(Refusal),
@@ -44,19 +44,35 @@ const MILLION: u64 = 1000000;
 pub fn current(cable: Cable, h: u32, r: u32, minutes: u32) -> CurrentAnswer
     ensures { λ a. ⌜ CurrentSaid (givenCable cable) h r minutes a ⌝ }
 {
-    let checked = cable::given(cable);
-    match checked {
-        CableCheck::Accepted(used) => current_of(used, h, r, minutes),
-        CableCheck::Refused(refusal) => CurrentAnswer::Refused(refusal),
+    let given = sheet::given_alone(cable);
+    let answer = share::share_given(b"", given, minutes);
+    after_share(answer, rated_of(given), h, r)
+}
+
+// The current that the cable of a sheet may carry, with its neighbours. The sheet is only read.
+pub fn current_in_sheet(sheet: &[u8], h: u32, r: u32, minutes: u32) -> CurrentAnswer
+    ensures { λ a. ⌜ CurrentSaid (givenSheet (now (sheet .entry))) h r minutes a ⌝ }
+{
+    let given = sheet::given(sheet);
+    let answer = share::share_given(sheet, given, minutes);
+    after_share(answer, rated_of(given), h, r)
+}
+
+// The rated current of what is given; where that is refused there is none.
+fn rated_of(given: TrenchCheck) -> u32
+    ensures { λ a. ⌜ a ≡ ratedOf given ⌝ }
+{
+    match given {
+        TrenchCheck::Accepted(trench) => trench.cable.rated,
+        TrenchCheck::Refused(_) => 0,
     }
 }
 
-// The current of an accepted cable in use: refusal 9, which is the share's, 12 or 13, or the amperes.
-pub fn current_of(used: Cable, h: u32, r: u32, minutes: u32) -> CurrentAnswer
-    requires { ⌜ Acceptable (only used) ⌝ }
-    ensures { λ a. ⌜ a ≡ currentOf (only used) h r minutes ⌝ }
+// The current from what the share answers: its refusal, that of what was handed in or 9; 12 or 13; or the amperes.
+fn after_share(answer: ShareAnswer, rated: u32, h: u32, r: u32) -> CurrentAnswer
+    requires { ⌜ Rated rated answer ⌝ }
+    ensures { λ a. ⌜ a ≡ afterShare rated h r answer ⌝ }
 {
-    let answer = share::share_of(used, minutes);
     let ShareAnswer::Pair(pair) = answer else {
         return CurrentAnswer::Refused(refusals::refusal_in(share::parts(answer)));
     };
@@ -78,7 +94,7 @@ pub fn current_of(used: Cable, h: u32, r: u32, minutes: u32) -> CurrentAnswer
             place: Place::None,
         });
     }
-    CurrentAnswer::Current(largest_certified(used.rated, h, r, high_share(pair)))
+    CurrentAnswer::Current(largest_certified(rated, h, r, high_share(pair)))
 }
 
 // What an answer states.

@@ -1,4 +1,4 @@
-// What a refusal says: its condition, as document 01's table words it ('When the desk is told no'), and what its place is.
+// What a refusal says: its condition, as document 01's table ('When the desk is told no') and document 02's notes word it, and what its place is.
 use libc::STDERR_FILENO;
 use libc::STDOUT_FILENO;
 
@@ -33,7 +33,7 @@ fn told(text: &[u8]) -> bool {
 
 fn condition(number: u32) -> bool {
     match number {
-        1 => out(b"length is not 36 + 6n, n 0 to 48\n"),
+        1 => out(b"length is neither 36 + 6n nor 38 + 6n, n 0 to 48\n"),
         2 => out(b"field outside its range, first such\n"),
         3 => out(b"slow rate above fast\n"),
         4 => out(b"starting current above 4,000\n"),
@@ -46,6 +46,11 @@ fn condition(number: u32) -> bool {
         11 => out(b"all hours 0\n"),
         12 => out(b"h outside 0 to 200, or r outside 1 to 200\n"),
         13 => out(b"h\xc2\xb2 above 100\xc2\xb7r\n"),
+        14 => out(b"neighbour's link above n or, unless 0, not above the record holding it\n"),
+        15 => out(
+            b"neighbour's offset beyond 3,000 mm either way, or depth outside 300 to 5,000\n",
+        ),
+        16 => out(b"neighbour's c below d\n"),
         _ => told(b"rating: no refusal has this number\n"),
     }
 }
@@ -54,12 +59,21 @@ fn condition(number: u32) -> bool {
 fn place_of(number: u32, place: u32) -> bool {
     match number {
         2 => field(place),
-        5 => link(place),
+        5 => link(place, b"record 0: the header's first link\n"),
         6 => record(place, b": its minutes, 1 to 2,880\n"),
         7 => record(place, b": its amperes, 0 to 4,000\n"),
         8 => record(place, b": its minutes, below those of the record before\n"),
         10 => hour(place),
         12 => input(place),
+        14 => link(place, b"record 0: the header's second link\n"),
+        15 => record(
+            place,
+            b": its offset, 3,000 mm either way at most, and depth, 300 to 5,000 mm\n",
+        ),
+        16 => record(
+            place,
+            b": its distance from the cable's axis, not below the cable's diameter\n",
+        ),
         _ => none(number, place),
     }
 }
@@ -83,9 +97,9 @@ fn field(place: u32) -> bool {
     }
 }
 
-fn link(place: u32) -> bool {
+fn link(place: u32, header: &[u8]) -> bool {
     if place == 0 {
-        return out(b"record 0: the header's first link\n");
+        return out(header);
     }
     record(place, b": its next link\n")
 }
@@ -114,7 +128,7 @@ fn input(place: u32) -> bool {
 
 // A number that is no refusal's has been told so before.
 fn none(number: u32, place: u32) -> bool {
-    if number == 0 || 13 < number {
+    if number == 0 || 16 < number {
         return true;
     }
     if place == 0 {

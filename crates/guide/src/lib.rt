@@ -14,7 +14,7 @@ pub fn help() {
     report::put(
         b"A buried cable's ratings, each with a proved distance to the exact value. docs/INPUTS.md explains every number and refusal.
 CABLE is D L S K W FAST SLOW RATED: diameter in 0.1 mm, depth in mm, diffusivity in 1e-9 m2/s (0: 500),
-surface ratio and fast weight in millionths, fast and slow rate in millionths per second, rated amperes.
+surface ratio and fast weight in millionths, fast and slow rate in millionths per second, rated amperes; or a load sheet's file.
   rating share CABLE MINUTES        the attained share, low and high, in millionths
 e.g. rating share 500 1000 500 600000 500000 1000 100 400 60
   rating factor CABLE H0 .. H23     the cyclic factor in thousandths, from hourly amperes

@@ -1,7 +1,7 @@
 -- What is promised of an answer follows from the answer: a rise that is given is the distance of document 01, 'What the distances say', from the exact rise.
 use mathlib.Core.Path.{_≡_, refl, sym, ap, subst, _∙_}
 use mathlib.Core.List.{List, [], _∷_}
-use Prim.Native.Nat.{ℕ, suc, _≤_}
+use Prim.Native.Nat.{ℕ, _≤_}
 use native.Mathlib.Omega.{arith}
 use lib.Dec.{T}
 use lib.IntN.{ℤ}
@@ -16,10 +16,10 @@ use Rattle.share.specs.Promises.{widthOf, exactShare}
 use Rattle.share.proofs.Promises.{stated-pair}
 use Rattle.distance.proofs.Enclosed.{Enclosed}
 use Rattle.share.proofs.Rising.{accepted-at, share-enclosed, exact-share-bounds}
-use Rattle.sheet.specs.Header.{startingCurrent, givenHeader}
-use Rattle.sheet.specs.Records.{mostMinutes, origin}
+use Rattle.sheet.specs.Header.{startingCurrent}
+use Rattle.sheet.specs.Records.{mostMinutes}
 use Rattle.sheet.specs.Chain.{Chain, steps, refused, chainOf}
-use Rattle.sheet.proofs.HeaderChecks.{header-sound}
+use Rattle.sheet.proofs.SheetChecks.{sheet-sound}
 use Rattle.history.specs.Rise.{riseOf}
 use Rattle.history.specs.Exact.{exactRise, RiseDistance}
 use Rattle.history.specs.Answer.{riseFrom, riseOfGiven, historyOf, riseAnswer, stepsOf, statedRise, RiseSaid}
@@ -46,7 +46,7 @@ module _ (g : Group) (a : Acceptable g) (s : List ℕ) {b : Bounds} (e : riseFro
   report = by-chain g start (chainOf s) e
 
   at-steps : (P : ℕ → Type 0) → ((m : ℕ) → 1 ≤ m → m ≤ mostMinutes → P m) → AtSteps P (stepsOf (chainOf s))
-  at-steps P within = chain-minutes P within (suc (origin s .minutes)) s (origin s)
+  at-steps P within = chain-minutes P within s
 
   reported-distance : RiseDistance (widthOf g) (exactShare g) start (g .cable .rated) (stepsOf (chainOf s)) b
   reported-distance =
@@ -74,5 +74,5 @@ unfolding riseAnswer
 said s {r} e = record {
   answer = e;
   distance = λ g is low high q.
-      reported-distance g (header-sound s g is) s (sym (ap (λ x. riseOfGiven x (startingCurrent s) (chainOf s)) is) ∙ sym e ∙ reported r q);
+      reported-distance g (sheet-sound s g is) s (sym (ap (λ x. riseOfGiven x (startingCurrent s) (chainOf s)) is) ∙ sym e ∙ reported r q);
 }

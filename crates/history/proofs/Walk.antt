@@ -1,27 +1,28 @@
 -- The walk along a chain: what a turn adds to the sum, the answer of the whole sheet is that of the rest, at every record.
 use mathlib.Core.Path.{_≡_, refl, sym, ap, _∙_}
 use mathlib.Core.List.{List, _∷_}
-use Prim.Native.Nat.{ℕ, suc, _*_}
+use Prim.Native.Nat.{ℕ, _*_}
 use native.Mathlib.Omega.{arith}
 use lib.IntN.{pos, +ℤ-assoc, +ℤ-idr}
 use Rattle.bounds.specs.Operations.{pointB, addB, dividedB}
 use Rattle.bounds.specs.declared.Bounds.{Bounds}
 use Rattle.bounds.proofs.Enclosure.{same-ends}
-use Rattle.cable.specs.Group.{only, alone}
-use Rattle.cable.specs.declared.Cable.{Cable}
 use Rattle.refusals.specs.declared.Refusal.{Refusal}
 use Rattle.share.specs.Pair.{sharePair}
-use Rattle.sheet.specs.Header.{checkedHeader}
+use Rattle.sheet.specs.Sheet.{checkedSheet, groupOf, givenSheet}
+use Rattle.sheet.specs.Promises.{TrenchSaid}
 use Rattle.sheet.specs.Records.{mostMinutes, beforeFirst, recordAt, checkedRecord}
-use Rattle.sheet.specs.Chain.{Step, Chain, steps, refused, stepOf, withStep, chainFrom}
+use Rattle.sheet.specs.Chain.{Step, Chain, steps, refused, stepOf, asChain, loadWalk}
 use Rattle.sheet.specs.declared.Header.{Header}
 use Rattle.sheet.specs.declared.HeaderCheck.the-variants as H
+use Rattle.sheet.specs.declared.whole.Trench.{Trench}
 use Rattle.sheet.specs.declared.LoadRecord.{LoadRecord}
 use Rattle.sheet.specs.declared.RecordRead.the-variants.{Held, Missing}
 use Rattle.sheet.specs.declared.RecordCheck.the-variants as K
 use Rattle.sheet.proofs.HeaderChecks.{accepted-header}
+use Rattle.sheet.proofs.SheetChecks.{accepted-sheet}
 use Rattle.sheet.proofs.RecordChecks.{header-held}
-use Rattle.sheet.proofs.ChainTurns.{chain-ends, chain-refused, chain-goes-on}
+use Rattle.sheet.proofs.ChainTurns.{withStep, chain-ends, chain-refused, chain-goes-on}
 use Rattle.history.specs.Rise.{stepHeat, startHeat, sumOf, riseOf}
 use Rattle.history.specs.Answer.{afterChain, historyOf, riseAnswer}
 use Rattle.history.specs.Walk.{Begins}
@@ -55,7 +56,7 @@ module _ (pairs : ℕ → Bounds) (rated : ℕ) where
 
   -- the answer of the chain after a record, the sum so far given
   pub rest : List ℕ → LoadRecord → Bounds → RiseAnswer
-  rest s r sum = afterChain (chainFrom (suc (r .minutes)) s r) (riseWith sum (r .amperes))
+  rest s r sum = afterChain (asChain (loadWalk s r)) (riseWith sum (r .amperes))
 
   module _ (s : List ℕ) (r : LoadRecord) (sum : Bounds) where
     pub rest-ends : r .next ≡ 0 → Rise (dividedB sum (rated * rated)) ≡ rest s r sum
@@ -72,38 +73,38 @@ module _ (pairs : ℕ → Bounds) (rated : ℕ) where
       pub rest-goes-on : {n : LoadRecord} → checkedRecord r (recordAt s (r .next)) ≡ K.Accepted n → rest s n (addB sum (stepHeat (pairs (n .minutes)) (r .amperes) (n .amperes))) ≡ rest s r sum
       unfolding rest riseWith sumOf
       rest-goes-on {n} e =
-          same-rise (chainFrom (suc (n .minutes)) s n) _ _
+          same-rise (asChain (loadWalk s n)) _ _
           (λ ss. ap (λ b. dividedB b (rated * rated)) (add-assoc sum (stepHeat (pairs (n .minutes)) (r .amperes) (n .amperes)) (sumOf pairs (n .amperes) ss)))
-          ∙ sym (step-first (stepOf n) (chainFrom (suc (n .minutes)) s n) (riseWith sum (r .amperes)))
+          ∙ sym (step-first (stepOf n) (asChain (loadWalk s n)) (riseWith sum (r .amperes)))
           ∙ ap (λ c. afterChain c (riseWith sum (r .amperes))) (sym (chain-goes-on s r z e))
 
 -- ---- the whole sheet
 
 module _ (s : List ℕ) where
-  pub header-refused : {f : Refusal} → checkedHeader s ≡ H.Refused f → Refused f ≡ riseAnswer (historyOf s)
-  unfolding riseAnswer
-  header-refused e = rw (e, riseAnswer)
+  pub sheet-refused : {f : Refusal} → checkedSheet s ≡ H.Refused f → Refused f ≡ riseAnswer (historyOf s)
+  unfolding riseAnswer givenSheet
+  sheet-refused e = rw (e, riseAnswer, givenSheet)
 
   -- the walk begins with the header's own record and its current's part
-  pub rest-of-all : {h : Header} → checkedHeader s ≡ H.Accepted h → rest (sharePair (alone (h .cable))) (alone (h .cable) .cable .rated) s (beforeFirst (h .start) (h .link)) (startHeat (h .start)) ≡ riseAnswer (historyOf s)
-  unfolding riseAnswer rest riseWith riseOf
+  pub rest-of-all : {h : Header} → checkedSheet s ≡ H.Accepted h → rest (sharePair (groupOf s)) (groupOf s .cable .rated) s (beforeFirst (h .start) (h .link)) (startHeat (h .start)) ≡ riseAnswer (historyOf s)
+  unfolding riseAnswer givenSheet rest riseWith riseOf
   rest-of-all {h} e =
-      let is = accepted-header s e .is in
-      ap (λ (g : Header). rest (sharePair (alone (h .cable))) (alone (h .cable) .cable .rated) s (beforeFirst (g .start) (g .link)) (startHeat (g .start))) is ∙ rw (e, riseAnswer)
+      let is = accepted-sheet s e .is in
+      ap (λ (k : Header). rest (sharePair (groupOf s)) (groupOf s .cable .rated) s (beforeFirst (k .start) (k .link)) (startHeat (k .start))) is ∙ rw (e, riseAnswer, givenSheet)
 
 -- ---- where a walk begins
 
-module _ (s : List ℕ) {h : Header} (e : checkedHeader s ≡ H.Accepted h) {used : Cable} (u : only used ≡ alone (h .cable)) where
-  pub begins-plain : {first : LoadRecord} → first ≡ beforeFirst (h .start) (h .link) → Begins s used first
-  begins-plain f = rw f (record { cable = h .cable; header = e; used-is = u; record-0 = refl })
+module _ (s : List ℕ) {h : Header} (e : checkedSheet s ≡ H.Accepted h) {t : Trench} (d : TrenchSaid h t) where
+  pub begins-plain : {first : LoadRecord} → first ≡ beforeFirst (h .start) (h .link) → Begins s t first
+  begins-plain f = record { header = h; sheet = e; trench = d; record-0 = f }
 
   -- the header is held as record 0
   header-read : recordAt s 0 ≡ Held (beforeFirst (h .start) (h .link))
   header-read =
-      let a = accepted-header s e in
-      sym (header-held s 0 (a .length-right) (omega arith) refl) ∙ ap (λ (g : Header). Held (beforeFirst (g .start) (g .link))) (sym (a .is))
+      let a = accepted-sheet s e in
+      sym (header-held s 0 (accepted-header s (a .header) .length-right) (omega arith) refl) ∙ ap (λ (k : Header). Held (beforeFirst (k .start) (k .link))) (sym (a .is))
 
-  pub begins-read : {first : LoadRecord} → recordAt s 0 ≡ Held first → Begins s used first
+  pub begins-read : {first : LoadRecord} → recordAt s 0 ≡ Held first → Begins s t first
   begins-read {first} r = let f : first ≡ beforeFirst (h .start) (h .link) = cc header-read in begins-plain f
 
   pub header-not-missing : recordAt s 0 ≡ Missing → ⊥

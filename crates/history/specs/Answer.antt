@@ -1,5 +1,5 @@
 -- Document 01, 'The load sheet' and 'When the desk is told no': the answer for the bytes of a sheet. Order: "1, 2, 3, 4, then for each record in turn
--- 5 for the link that leads to it, 6, 7, 8".
+-- 5 for the link that leads to it, 6, 7, 8"; document 02, note 2: "After all checks of the load chain come, for each neighbour in turn, 14 [..], 15 [..] and 16".
 use mathlib.Core.Path.{_≡_}
 use mathlib.Core.List.{List, [], _∷_}
 use Prim.Native.Nat.{ℕ}
@@ -10,7 +10,8 @@ use Rattle.cable.specs.Group as G
 use Rattle.cable.specs.Group.{Group, Given, accepted}
 use Rattle.share.specs.Pair.{sharePair}
 use Rattle.share.specs.Promises.{widthOf, exactShare}
-use Rattle.sheet.specs.Header.{startingCurrent, givenHeader}
+use Rattle.sheet.specs.Header.{startingCurrent}
+use Rattle.sheet.specs.Sheet.{givenSheet}
 use Rattle.sheet.specs.Chain.{Step, Chain, steps, refused, chainOf}
 use Rattle.history.specs.Rise.{riseOf}
 use Rattle.history.specs.Exact.{RiseDistance}
@@ -38,7 +39,7 @@ pub record LoadHistory : Type 0 where
 
 -- as the bytes of a sheet hold it
 abbrev pub historyOf : List ℕ → LoadHistory
-historyOf s = record { given = givenHeader s; start = startingCurrent s; chain = chainOf s }
+historyOf s = record { given = givenSheet s; start = startingCurrent s; chain = chainOf s }
 
 unfoldable pub riseAnswer : LoadHistory → RiseAnswer
 riseAnswer h = riseOfGiven (h .given) (h .start) (h .chain)

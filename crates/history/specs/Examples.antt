@@ -16,10 +16,12 @@ use Rattle.cable.specs.Checks.{outsideField, checked, inUse}
 use Rattle.refusals.specs.Stated.{no-place, a-record}
 use Rattle.refusals.specs.declared.Place.the-variants as P
 use Rattle.sheet.specs.BigEndian.{bigEndian}
-use Rattle.sheet.specs.Layout.{wrongLength}
+use Rattle.sheet.specs.Layout.{headerLength, wrongLength}
 use Rattle.sheet.specs.Header.{cableOf, checkedHeader}
 use Rattle.sheet.specs.Records.{recordAt, checkedRecord}
-use Rattle.sheet.specs.Chain.{Step, chainFrom}
+use Rattle.sheet.specs.Walk.{walkFrom}
+use Rattle.sheet.specs.Chain.{Step}
+use Rattle.sheet.specs.Sheet.{checkedSheet, givenSheet}
 use Rattle.history.specs.Rise.{sumOf, riseOf}
 use Rattle.history.specs.Exact.{exactSum, exactRise, changes, RiseDistance}
 use Rattle.history.specs.Answer.{historyOf, riseAnswer, statedRise}
@@ -116,15 +118,15 @@ sheet-with rest = 0 ∷ 0 ∷ 1 ∷ 244 ∷ 0 ∷ 0 ∷ 3 ∷ 232 ∷ 0 ∷ 0 �
 
 -- 200 A of the rated 400 A, for ever
 steady : riseAnswer (historyOf (sheet-with (0 ∷ 200 ∷ 0 ∷ 0 ∷ []))) ≡ Rise (rise (pos 250000) (pos 250000))
-unfolding riseAnswer checkedHeader wrongLength checked outsideField cableOf bigEndian chainFrom riseOf sumOf addB dividedB floorZ ceilZ inUse
+unfolding headerLength riseAnswer givenSheet checkedSheet checkedHeader wrongLength checked outsideField cableOf bigEndian walkFrom riseOf sumOf addB dividedB floorZ ceilZ inUse
 steady = refl
 
 -- the header passes, and the first link leads to no record
 no-such-record : riseAnswer (historyOf (sheet-with (0 ∷ 200 ∷ 0 ∷ 1 ∷ []))) ≡ Refused (record { number = 5; place = P.Record 0 })
-unfolding riseAnswer checkedHeader wrongLength checked outsideField cableOf bigEndian chainFrom checkedRecord recordAt
+unfolding headerLength riseAnswer givenSheet checkedSheet checkedHeader wrongLength checked outsideField cableOf bigEndian walkFrom checkedRecord recordAt
 no-such-record = refl
 
 -- nothing at all
 empty : riseAnswer (historyOf []) ≡ Refused (record { number = 1; place = P.None })
-unfolding riseAnswer checkedHeader wrongLength
+unfolding headerLength riseAnswer givenSheet checkedSheet checkedHeader wrongLength
 empty = refl

@@ -7,12 +7,14 @@ use Rattle.bounds.specs.Operations.{addB, dividedB}
 use Rattle.bounds.specs.Promises.{Sized}
 use Rattle.bounds.specs.declared.Bounds.{Bounds}
 use Rattle.refusals.specs.Ranges.{outside, _to_}
-use Rattle.cable.specs.Group.{only, alone}
-use Rattle.cable.specs.InRange.{Acceptable}
 use Rattle.cable.specs.declared.Cable.{Cable}
 use Rattle.share.specs.Answer as share
-use Rattle.sheet.specs.Header.{mostAmperes, checkedHeader}
+use Rattle.sheet.specs.Header.{mostAmperes}
 use Rattle.sheet.specs.Records.{mostMinutes, beforeFirst, checkedRecord}
+use Rattle.sheet.specs.Sheet.{checkedSheet, Laid}
+use Rattle.sheet.specs.Promises.{TrenchSaid}
+use Rattle.sheet.specs.declared.Header.{Header}
+use Rattle.sheet.specs.declared.whole.Trench.{Trench}
 use Rattle.sheet.specs.declared.LoadRecord.{LoadRecord}
 use Rattle.sheet.specs.declared.RecordRead.{RecordRead}
 use Rattle.sheet.specs.declared.RecordCheck.{RecordCheck}
@@ -53,11 +55,16 @@ stepMost = 2 * (mostAmperes * mostAmperes) * million
 abbrev pub partsTo : ℕ → ℕ
 partsTo minutes = mostMinutes + 2 - minutes
 
--- An accepted cable in use, a record in its ranges, and a sum that leaves room for the steps to come.
-pub record Turning (used : Cable) (at : Reached) : Type 0 where
-  pub acceptable : Acceptable (only used)
+-- An accepted cable in use and its neighbours, a record in its ranges, and a sum that leaves room for the steps to come.
+pub record Turning (s : List ℕ) (t : Trench) (at : Reached) : Type 0 where
+  pub laid : Laid s t
   pub minutes-most : at .last .minutes ≤ mostMinutes + 1
   pub amperes-most : at .last .amperes ≤ mostAmperes
+  pub sized : Sized (stepMost * partsTo (at .last .minutes)) (at .sum)
+
+-- A rated current that is no zero, and the sum.
+pub record Ending (used : Cable) (at : Reached) : Type 0 where
+  pub rated-from : 50 ≤ used .rated
   pub sized : Sized (stepMost * partsTo (at .last .minutes)) (at .sum)
 
 -- A record that passed 6 and 7; the minutes of a record are those of a share.
@@ -65,9 +72,9 @@ pub record StepTo (next : LoadRecord) : Type 0 where
   pub minutes-within : outside (1 to share.mostMinutes) (next .minutes) ≡ false
   pub amperes-most : next .amperes ≤ mostAmperes
 
--- Where a walk begins: the cable in use of an accepted header, and the header's own record.
-pub record Begins (s : List ℕ) (used : Cable) (first : LoadRecord) : Type 0 where
-  pub cable : Cable
-  pub header : checkedHeader s ≡ H.Accepted (record { cable = cable; start = first .amperes; link = first .next })
-  pub used-is : only used ≡ alone cable
-  pub record-0 : first ≡ beforeFirst (first .amperes) (first .next)
+-- Where a walk begins: what an accepted sheet gives, and the header's own record.
+pub record Begins (s : List ℕ) (t : Trench) (first : LoadRecord) : Type 0 where
+  pub header : Header
+  pub sheet : checkedSheet s ≡ H.Accepted header
+  pub trench : TrenchSaid header t
+  pub record-0 : first ≡ beforeFirst (header .start) (header .link)

@@ -6,23 +6,23 @@ use crate::Turn;
 use crate::begin;
 use crate::end;
 use crate::step;
-use cable::Cable;
 use refusals::Place;
 use refusals::Refusal;
 use sheet::HeaderCheck;
 use sheet::LoadRecord;
 use sheet::RecordRead;
+use sheet::Trench;
 use sheet::reader;
 
 // The same rise, its chain walked by a reader: the starting current and every link, minute and ampere come through it.
 pub fn rise_by_reader(sheet: &[u8]) -> RiseAnswer
     ensures { λ r. ⌜ RiseSaid (historyOf (now (sheet .entry))) r ⌝ }
 {
-    let checked = sheet::check_header(sheet);
+    let checked = sheet::check_sheet(sheet);
     match checked {
         HeaderCheck::Refused(refusal) => RiseAnswer::Refused(refusal),
         HeaderCheck::Accepted(header) => {
-            let used = cable::alone(header.cable);
+            let trench = sheet::trench_of(header);
             let read = reader::record_read(sheet, 0);
             // Never taken: record 0 of an accepted sheet is the one made of its header.
             let RecordRead::Held(first) = read else {
@@ -31,23 +31,23 @@ pub fn rise_by_reader(sheet: &[u8]) -> RiseAnswer
                     place: Place::None,
                 });
             };
-            reader_rise(sheet, used, first)
+            reader_rise(sheet, trench, first)
         }
     }
 }
 
 // The reader's walk, from the header's own record on.
-fn reader_rise(sheet: &[u8], used: Cable, first: LoadRecord) -> RiseAnswer
-    requires { ⌜ Begins (now sheet) used first ⌝ }
+fn reader_rise(sheet: &[u8], trench: Trench, first: LoadRecord) -> RiseAnswer
+    requires { ⌜ Begins (now sheet) trench first ⌝ }
     ensures { λ r. ⌜ RiseSaid (historyOf (now (sheet .entry))) r ⌝ }
 {
     let mut at = begin(first);
     loop {
         let last = at.last;
         if last.next == 0 {
-            break RiseAnswer::Rise(end(used, at));
+            break RiseAnswer::Rise(end(trench.cable, at));
         }
-        let turn = step(used, at, reader::record_read(sheet, last.next));
+        let turn = step(sheet, trench, at, reader::record_read(sheet, last.next));
         match turn {
             Turn::Refused(refusal) => break RiseAnswer::Refused(refusal),
             Turn::Next(next) => at = next,

@@ -1,15 +1,15 @@
-// The rise of a cable after a load history: document 01, 'The load sheet'.
+// The rise of a cable after a load history: document 01, 'The load sheet'; document 02, note 2.
 ghost use mathlib.Core.Path.{_≡_};
 ghost use Prim.Native.Nat.{_≤_};
 ghost use Rattle.bounds.specs.Operations.{pointB};
 ghost use Rattle.refusals.specs.Apart.{partsOf};
-ghost use Rattle.cable.specs.Group.{only};
 ghost use Rattle.share.specs.Pair.{sharePair};
 ghost use Rattle.sheet.specs.Header.{mostAmperes};
+ghost use Rattle.sheet.specs.Sheet.{groupIn};
 ghost use Rattle.history.specs.Rise.{changeOf};
 ghost use Rattle.history.specs.Answer.{statedRise, historyOf, RiseSaid};
 ghost use Rattle.history.specs.declared.Turn.the-variants.{Next};
-ghost use Rattle.history.specs.Walk.{Begins, Turning, StepTo, beginAt, nextAt, turnOf, endOf};
+ghost use Rattle.history.specs.Walk.{Begins, Turning, Ending, StepTo, beginAt, nextAt, turnOf, endOf};
 
 mod by_reader;
 
@@ -23,6 +23,7 @@ use sheet::HeaderCheck;
 use sheet::LoadRecord;
 use sheet::RecordCheck;
 use sheet::RecordRead;
+use sheet::Trench;
 
 // The rise, low and high, in millionths of the rated steady rise, or the sheet's first refusal.
 pub enum RiseAnswer {
@@ -49,29 +50,29 @@ const MILLION: u64 = 1000000;
 pub fn rise(sheet: &[u8]) -> RiseAnswer
     ensures { λ r. ⌜ RiseSaid (historyOf (now (sheet .entry))) r ⌝ }
 {
-    let checked = sheet::check_header(sheet);
+    let checked = sheet::check_sheet(sheet);
     match checked {
         HeaderCheck::Refused(refusal) => RiseAnswer::Refused(refusal),
         HeaderCheck::Accepted(header) => {
-            let used = cable::alone(header.cable);
+            let trench = sheet::trench_of(header);
             let first = sheet::before_first(header.start, header.link);
-            chain_rise(sheet, used, first)
+            chain_rise(sheet, trench, first)
         }
     }
 }
 
 // The walk along the chain of records, from the header's own on. Minutes fall from record to record.
-fn chain_rise(sheet: &[u8], used: Cable, first: LoadRecord) -> RiseAnswer
-    requires { ⌜ Begins (now sheet) used first ⌝ }
+fn chain_rise(sheet: &[u8], trench: Trench, first: LoadRecord) -> RiseAnswer
+    requires { ⌜ Begins (now sheet) trench first ⌝ }
     ensures { λ r. ⌜ RiseSaid (historyOf (now (sheet .entry))) r ⌝ }
 {
     let mut at = begin(first);
     loop {
         let last = at.last;
         if last.next == 0 {
-            break RiseAnswer::Rise(end(used, at));
+            break RiseAnswer::Rise(end(trench.cable, at));
         }
-        let turn = step(used, at, sheet::record_at(sheet, last.next));
+        let turn = step(sheet, trench, at, sheet::record_at(sheet, last.next));
         match turn {
             Turn::Refused(refusal) => break RiseAnswer::Refused(refusal),
             Turn::Next(next) => at = next,
@@ -89,24 +90,24 @@ fn begin(first: LoadRecord) -> Reached
 }
 
 // One turn of the walk: what was read at the link is checked, and the change of its step times its share is added; or its refusal is handed out.
-fn step(used: Cable, at: Reached, read: RecordRead) -> Turn
-    requires { ⌜ Turning used at ⌝ }
-    ensures { λ r. ⌜ r ≡ turnOf (sharePair (only used)) at read ⌝ }
+fn step(sheet: &[u8], trench: Trench, at: Reached, read: RecordRead) -> Turn
+    requires { ⌜ Turning (now sheet) trench at ⌝ }
+    ensures { λ r. ⌜ r ≡ turnOf (sharePair (groupIn (now (sheet .entry)) trench)) at read ⌝ }
 {
     let last = at.last;
     let checked = sheet::check_record(last, read);
     match checked {
         RecordCheck::Refused(refusal) => Turn::Refused(refusal),
-        RecordCheck::Accepted(next) => step_to(used, at, next),
+        RecordCheck::Accepted(next) => step_to(sheet, trench, at, next),
     }
 }
 
 // The turn to a record that was checked. Its minutes are those of a share, so the share is not refused.
-fn step_to(used: Cable, at: Reached, next: LoadRecord) -> Turn
-    requires { ⌜ (Turning used at) × (StepTo next) ⌝ }
-    ensures { λ r. ⌜ r ≡ Next (nextAt (sharePair (only used)) at next) ⌝ }
+fn step_to(sheet: &[u8], trench: Trench, at: Reached, next: LoadRecord) -> Turn
+    requires { ⌜ (Turning (now sheet) trench at) × (StepTo next) ⌝ }
+    ensures { λ r. ⌜ r ≡ Next (nextAt (sharePair (groupIn (now (sheet .entry)) trench)) at next) ⌝ }
 {
-    let answer = share::share_of(used, next.minutes);
+    let answer = share::share_of(sheet, trench, next.minutes);
     let ShareAnswer::Pair(pair) = answer else {
         return Turn::Refused(refusals::refusal_in(share::parts(answer)));
     };
@@ -120,7 +121,7 @@ fn step_to(used: Cable, at: Reached, next: LoadRecord) -> Turn
 
 // The rise, once the chain has ended: one division, by the squared rated current.
 fn end(used: Cable, at: Reached) -> Bounds
-    requires { ⌜ Turning used at ⌝ }
+    requires { ⌜ Ending used at ⌝ }
     ensures { λ r. ⌜ r ≡ endOf used at ⌝ }
 {
     let sum = at.sum;

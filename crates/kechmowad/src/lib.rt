@@ -1,8 +1,9 @@
-// The four calculations for C and Rust, on numbers and bytes. Each writes its answer as five numbers into a lent array: the refusal's number, 0 for none,
+// The calculations for C and Rust, on numbers and bytes. Each writes its answer as five numbers into a lent array: the refusal's number, 0 for none,
 // the kind and the number of its place, and the values.
 ghost use mathlib.Core.Path.{_≡_};
 ghost use Rattle.cable.specs.Checks.{cableFrom};
 ghost use Rattle.cable.specs.Group.{givenCable};
+ghost use Rattle.sheet.specs.Sheet.{givenSheet};
 ghost use Rattle.share.specs.Answer.{ShareSaid, statedShare};
 ghost use Rattle.history.specs.Answer.{historyOf, RiseSaid, statedRise};
 ghost use Rattle.cycle.specs.Answer.{FactorSaid, statedFactor};
@@ -50,6 +51,40 @@ pub extern "C" fn kechmowad_current(
     ensures { λ _. ⌜ Crosses (CurrentSaid (givenCable (cableFrom (now (cable .entry)))) h r minutes) statedCurrent (now (answer .exit)) ⌝ }
 {
     let current = emergency::current(cable::cable_from(cable), h, r, minutes);
+    *answer = copied(emergency::parts(current));
+}
+
+// The attained share of the cable of a sheet, with its neighbours: low and high.
+#[no_mangle]
+pub extern "C" fn kechmowad_share_in_sheet(sheet: &[u8], minutes: u32, answer: &mut [i64; 5])
+    ensures { λ _. ⌜ Crosses (ShareSaid (givenSheet (now (sheet .entry))) minutes) statedShare (now (answer .exit)) ⌝ }
+{
+    let share = share::share_in_sheet(sheet, minutes);
+    *answer = copied(share::parts(share));
+}
+
+// The cyclic factor of the cable of a sheet, with its neighbours, and 0.
+#[no_mangle]
+pub extern "C" fn kechmowad_factor_in_sheet(sheet: &[u8], hours: &[u16; 24], answer: &mut [i64; 5])
+    ensures { λ _. ⌜ Crosses (FactorSaid (givenSheet (now (sheet .entry))) (now (hours .entry))) statedFactor (now (answer .exit)) ⌝ }
+{
+    let day = *hours;
+    let factor = cycle::factor_in_sheet(sheet, day);
+    *answer = copied(cycle::parts(factor));
+}
+
+// The emergency current of the cable of a sheet, with its neighbours, and 0.
+#[no_mangle]
+pub extern "C" fn kechmowad_current_in_sheet(
+    sheet: &[u8],
+    h: u32,
+    r: u32,
+    minutes: u32,
+    answer: &mut [i64; 5],
+)
+    ensures { λ _. ⌜ Crosses (CurrentSaid (givenSheet (now (sheet .entry))) h r minutes) statedCurrent (now (answer .exit)) ⌝ }
+{
+    let current = emergency::current_in_sheet(sheet, h, r, minutes);
     *answer = copied(emergency::parts(current));
 }
 

@@ -287,7 +287,8 @@ module _ {d l s k w t : ℕ} (c : Ranges d l s k w t) where
   pub group-logarithm-most : {xs : List Source} → AllBeside xs → length xs ≤ 48 → groupLogarithm d l xs .high ≤ 822 * one
   group-logarithm-most a h = let g = logarithms-most (cableLogarithm d l) a in let m = cable-logarithm-most c in omega arith
 
-  -- for every accepted cable, its neighbours, however many, and time
+  -- for every accepted cable, its neighbours, however many, and time. Document 02, note 2: "The share keeps its 50 millionths for any neighbours, proved once over
+  -- their list"
   pub share-within-inner-width : (fast slow : ℕ) {xs : List Source} → AllBeside xs → Within innerWidth (attainedShare d l s k w fast slow t xs)
   unfolding attainedShare
   share-within-inner-width fast slow {xs} a =

@@ -4,15 +4,14 @@ use mathlib.Core.List.{List}
 use Prim.Native.Nat.{ℕ, _+_, _<_, min}
 use lib.ListN.{length, getD}
 use Rattle.cycle.specs.Day.{dayHours}
-use Rattle.rating.specs.Words.{cableFields}
 
 abbrev pub mostHour : ℕ
 mostHour = 65535
 
--- The first `done` of the hours after a cable's eight fields.
-pub record HoursTo (done : ℕ) (values hours : List ℕ) : Type 0 where
+-- The first `done` of the hours that stand from place `from` on: after a cable's eight fields, or first.
+pub record HoursTo (from done : ℕ) (values hours : List ℕ) : Type 0 where
   pub many : length hours ≡ dayHours
-  pub each : (k : ℕ) → k < done → getD hours k 0 ≡ min (getD values (cableFields + k) 0) mostHour
+  pub each : (k : ℕ) → k < done → getD hours k 0 ≡ min (getD values (from + k) 0) mostHour
 
-abbrev pub HoursFrom : List ℕ → List ℕ → Type 0
-HoursFrom values hours = HoursTo dayHours values hours
+abbrev pub HoursFrom : ℕ → List ℕ → List ℕ → Type 0
+HoursFrom from values hours = HoursTo from dayHours values hours

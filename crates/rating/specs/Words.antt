@@ -1,11 +1,13 @@
 -- What is known of the numbers among the words. Which words were typed no contract can say.
 use mathlib.Core.Path.{_≡_}
-use mathlib.Core.Bool.{Bool, true, false, not}
+use mathlib.Core.Bool.{Bool, true, false, cond, not}
 use mathlib.Core.List.{List}
 use Prim.Native.Nat.{ℕ, _+_, _≤_}
 use lib.Dec.{eqb}
 use lib.ListN.{getD}
 use Rattle.cycle.specs.Day.{dayHours}
+use Rattle.rating.specs.declared.answers.Asked.{Asked}
+use Rattle.rating.specs.declared.answers.Asked.the-variants.{Share, Factor, Current}
 use Rattle.rating.specs.declared.words.Fault.{Fault}
 use Rattle.rating.specs.declared.words.Fault.the-variants.{None, Count, NotWhole}
 use Rattle.rating.specs.declared.words.Numbers.{Numbers}
@@ -16,6 +18,16 @@ cableFields = 8
 -- a cable and its hours, the most that a calculation takes
 abbrev pub numbersRoom : ℕ
 numbersRoom = cableFields + dayHours
+
+-- how many numbers are asked with: minutes; hours; preload, limit and minutes
+abbrev pub moreOf : Asked → ℕ
+moreOf Share = 1
+moreOf Factor = dayHours
+moreOf Current = 3
+
+-- a cable's fields, where no file is named, and those
+abbrev pub wantedBy : Asked → Bool → ℕ
+wantedBy asked named = cond named (moreOf asked) (cableFields + moreOf asked)
 
 abbrev pub miscounted : Fault → Bool
 miscounted None = false
@@ -31,8 +43,17 @@ Among wanted (NotWhole k) = (1 ≤ k) × (k ≤ wanted)
 abbrev pub ZeroFrom : ℕ → List ℕ → Type 0
 ZeroFrom start values = (k : ℕ) → start ≤ k → getD values k 0 ≡ 0
 
--- The program's own name and the command are words, too.
-pub record ReadSaid (words wanted : ℕ) (r : Numbers) : Type 0 where
-  pub count : miscounted (r .fault) ≡ not (eqb words (2 + wanted))
+-- the program's own name and the command stand before the numbers, and where a file is named its name
+abbrev pub afterCommand : ℕ
+afterCommand = 2
+
+abbrev pub afterFile : ℕ
+afterFile = 3
+
+abbrev pub firstNumber : Bool → ℕ
+firstNumber named = cond named afterFile afterCommand
+
+pub record ReadSaid (words : ℕ) (named : Bool) (wanted : ℕ) (r : Numbers) : Type 0 where
+  pub count : miscounted (r .fault) ≡ not (eqb words (firstNumber named + wanted))
   pub faulty : Among wanted (r .fault)
   pub rest : ZeroFrom wanted (r .values)

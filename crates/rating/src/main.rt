@@ -1,22 +1,18 @@
-// Every calculation from the shell: `rating COMMAND NUMBERS` prints one line of answer.
+// Every calculation from the shell: `rating COMMAND NUMBERS` or `rating COMMAND FILE NUMBERS` prints one line of answer.
 ghost use Prim.Native.Nat.{_≤_};
+ghost use Rattle.text.specs.Writing.{lineRoom};
 
 mod answers;
 mod command;
+mod file;
 mod say;
 mod words;
 
+use answers::Asked;
 use command::Command;
-use report::Outcome;
-use report::Walk;
+use report::Input;
+use text::Line;
 use words::Fault;
-
-// How many numbers each calculation takes: a cable's fields, and what is asked of it.
-const SHARE_NUMBERS: usize = words::CABLE_FIELDS + 1;
-
-const FACTOR_NUMBERS: usize = words::CABLE_FIELDS + words::DAY_HOURS;
-
-const CURRENT_NUMBERS: usize = words::CABLE_FIELDS + 3;
 
 fn main() {
     let words = os::arg_count();
@@ -24,10 +20,8 @@ fn main() {
         guide::help();
         return;
     }
-    match command_given() {
-        Command::Share => share_command(words),
-        Command::Factor => factor_command(words),
-        Command::Current => current_command(words),
+    let command = command_given();
+    match command {
         Command::Rise => rise_command(words),
         Command::Explain => explain_command(words),
         Command::Help => help_command(words),
@@ -35,6 +29,7 @@ fn main() {
         Command::Unknown => say::complaint(
             b"usage: no such command; rating share, factor, current, rise, explain, help or version\n",
         ),
+        _ => calculate(words, command),
     }
 }
 
@@ -45,84 +40,108 @@ fn command_given() -> Command {
     command::command_of(&word[..length])
 }
 
-fn share_command(words: usize) {
-    let given = words::read(words, SHARE_NUMBERS);
+// A calculation of the cable whose numbers follow the command, or of the sheet in a file that is named first.
+fn calculate(words: usize, command: Command) {
+    let named = words::names_file(words);
+    let given = words::read(words, named, answers::wanted(asked_by(command), named));
     let fault = given.fault;
     let Fault::None = fault else {
-        say::fault(
+        complain(command, named, fault);
+        return;
+    };
+    let values = given.values;
+    answer(command, named, values);
+}
+
+fn asked_by(command: Command) -> Asked {
+    match command {
+        Command::Share => Asked::Share,
+        Command::Factor => Asked::Factor,
+        _ => Asked::Current,
+    }
+}
+
+fn answer(command: Command, named: bool, values: [u32; words::ROOM]) {
+    if named {
+        of_file(command, values);
+    } else {
+        report::print(
+            answers::of_cable(asked_by(command), values),
+            b"rating: the answer cannot be written",
+        );
+    }
+}
+
+fn of_file(command: Command, values: [u32; words::ROOM]) {
+    let mut buffer = [0u8; report::SHEET_ROOM];
+    let input = file::read_sheet(&mut buffer);
+    let Input::Length(length) = input else {
+        return;
+    };
+    report::print(
+        line_in_sheet(command, &buffer[..length], values),
+        b"rating: the answer cannot be written",
+    );
+}
+
+fn line_in_sheet(command: Command, sheet: &[u8], values: [u32; words::ROOM]) -> Line
+    ensures { λ r. ⌜ r .length ≤ lineRoom ⌝ }
+{
+    match command {
+        Command::Rise => report::rise_line(history::rise(sheet)),
+        _ => answers::in_sheet(asked_by(command), sheet, values),
+    }
+}
+
+fn complain(command: Command, named: bool, fault: Fault) {
+    if named {
+        complain_of_file(command, fault);
+    } else {
+        complain_of_numbers(command, fault);
+    }
+}
+
+fn complain_of_numbers(command: Command, fault: Fault) {
+    match command {
+        Command::Share => say::fault(
             fault,
             b"usage: 9 numbers wanted: rating share D L S K W FAST SLOW RATED MINUTES\n",
-        );
-        return;
-    };
-    let values = given.values;
-    report::print(
-        answers::share_of(values),
-        b"rating: the answer cannot be written",
-    );
-}
-
-fn factor_command(words: usize) {
-    let given = words::read(words, FACTOR_NUMBERS);
-    let fault = given.fault;
-    let Fault::None = fault else {
-        say::fault(
+        ),
+        Command::Factor => say::fault(
             fault,
             b"usage: 32 numbers wanted: rating factor D L S K W FAST SLOW RATED H0 .. H23\n",
-        );
-        return;
-    };
-    let values = given.values;
-    report::print(
-        answers::factor_of(values),
-        b"rating: the answer cannot be written",
-    );
-}
-
-fn current_command(words: usize) {
-    let given = words::read(words, CURRENT_NUMBERS);
-    let fault = given.fault;
-    let Fault::None = fault else {
-        say::fault(
+        ),
+        _ => say::fault(
             fault,
             b"usage: 11 numbers wanted: rating current D L S K W FAST SLOW RATED H R MINUTES\n",
-        );
-        return;
-    };
-    let values = given.values;
-    report::print(
-        answers::current_of(values),
-        b"rating: the answer cannot be written",
-    );
+        ),
+    }
+}
+
+fn complain_of_file(command: Command, fault: Fault) {
+    match command {
+        Command::Share => say::fault(
+            fault,
+            b"usage: one number wanted after the file: rating share FILE MINUTES\n",
+        ),
+        Command::Factor => say::fault(
+            fault,
+            b"usage: 24 numbers wanted after the file: rating factor FILE H0 .. H23\n",
+        ),
+        _ => say::fault(
+            fault,
+            b"usage: 3 numbers wanted after the file: rating current FILE H R MINUTES\n",
+        ),
+    }
 }
 
 fn rise_command(words: usize) {
-    if words != 3 {
+    if words != words::AFTER_FILE {
         say::complaint(b"usage: one file wanted: rating rise FILE\n");
         return;
     }
-    let mut path = io::buffer();
-    let length = os::arg(2, &mut path);
-    // Of a word that is longer than every path its start is there, and no length.
-    if os::errno() != 0 {
-        say::unread(&path);
-        return;
-    }
-    rise_of(&path[..length]);
-}
-
-fn rise_of(path: &[u8]) {
-    let descriptor = os::open_read(path);
-    if descriptor < 0 {
-        say::unread(path);
-        return;
-    }
-    let Outcome::Answer(answer) = report::rise_from(descriptor, Walk::Plain) else {
-        say::unread(path);
-        return;
-    };
-    libc::close(descriptor);
-    report::print_rise(answer, b"rating: the answer cannot be written");
+    // A rise takes no numbers.
+    of_file(Command::Rise, [0u32; words::ROOM]);
 }
 
 // How many numbers explain takes: a refusal's number and, where a second word follows, its place.
@@ -133,8 +152,7 @@ fn explained(words: usize) -> usize
 }
 
 fn explain_command(words: usize) {
-    let wanted = explained(words);
-    let given = words::read(words, wanted);
+    let given = words::read(words, false, explained(words));
     let fault = given.fault;
     let Fault::None = fault else {
         say::fault(
@@ -144,7 +162,7 @@ fn explain_command(words: usize) {
         return;
     };
     let values = given.values;
-    if wanted == 1 {
+    if explained(words) == 1 {
         guide::refusal(values[0]);
     } else {
         guide::refusal_at(values[0], values[1]);

@@ -1,10 +1,13 @@
 // The whole numbers among the program's words.
+ghost use mathlib.Core.Path.{_≡_};
 ghost use Prim.Native.Nat.{_≤_};
-ghost use Rattle.rating.specs.Words.{numbersRoom, ReadSaid};
+ghost use Rattle.rating.specs.Words.{afterFile, firstNumber, numbersRoom, ReadSaid};
 use text::Number;
 
-// The program's own name and the command stand before the first number.
-const FIRST: usize = 2;
+// The program's own name and the command stand before the first number, or before the name of a file.
+pub const AFTER_COMMAND: usize = 2;
+
+pub const AFTER_FILE: usize = AFTER_COMMAND + 1;
 
 const MOST: u32 = 4294967295;
 
@@ -27,20 +30,21 @@ pub struct Numbers {
     pub fault: Fault,
 }
 
-// The wanted numbers, from all the words after the command.
-pub fn read(words: usize, wanted: usize) -> Numbers
+// The wanted numbers, from all the words after the command, or after the file that is named.
+pub fn read(words: usize, named: bool, wanted: usize) -> Numbers
     requires { ⌜ wanted ≤ numbersRoom ⌝ }
-    ensures { λ r. ⌜ ReadSaid words wanted r ⌝ }
+    ensures { λ r. ⌜ ReadSaid words named wanted r ⌝ }
 {
+    let first = first_number(named);
     let mut values = [0u32; ROOM];
-    if words != FIRST + wanted {
+    if words != first + wanted {
         return Numbers {
             values,
             fault: Fault::Count,
         };
     }
     for k in 0..wanted {
-        let word = word_at(FIRST + k);
+        let word = word_at(first + k);
         let Number::Whole(value) = word else {
             return Numbers {
                 values,
@@ -53,6 +57,33 @@ pub fn read(words: usize, wanted: usize) -> Numbers
         values,
         fault: Fault::None,
     }
+}
+
+// Whether the word after the command names a file: it is not all digits. Of a word that is longer than every path its start tells.
+pub fn names_file(words: usize) -> bool {
+    if words <= AFTER_COMMAND {
+        return false;
+    }
+    let mut word = io::buffer();
+    let length = os::arg(AFTER_COMMAND, &mut word);
+    if os::errno() != 0 {
+        return !of_digits(&word);
+    }
+    !of_digits(&word[..length])
+}
+
+fn of_digits(word: &[u8]) -> bool {
+    if let Number::Whole(_) = text::number_of(word, MOST) {
+        return true;
+    }
+    false
+}
+
+// Where the numbers begin.
+fn first_number(named: bool) -> usize
+    ensures { λ r. ⌜ (r ≡ firstNumber named) × (r ≤ afterFile) ⌝ }
+{
+    if named { AFTER_FILE } else { AFTER_COMMAND }
 }
 
 // Word k as a whole number. With pages of 4 KiB the system hands over no word that does not fit here.

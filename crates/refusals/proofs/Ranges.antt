@@ -13,7 +13,7 @@ use Rattle.refusals.specs.Ranges.{Range, _to_, orZero, outside, firstOut
 
 -- ---- a range and its test
 
-neither : (s t : Bool) → (s || t) ≡ false → (s ≡ false) × (t ≡ false)
+pub neither : (s t : Bool) → (s || t) ≡ false → (s ≡ false) × (t ≡ false)
 neither false t e = (refl, e)
 neither true t e = let z : _≡_ {A = ℕ} 0 1 = cc in absurd (omega arith)
 

@@ -46,12 +46,14 @@ pub enum Walk {
     ByReader,
 }
 
-// The rise of the sheet behind a descriptor. The buffer is longer than the longest sheet, so that a longer input is refused for its length and
-// not cut.
+// In bytes. Longer than the longest sheet, so that a longer input is refused for its length and not cut.
+pub const SHEET_ROOM: usize = 1024;
+
+// The rise of the sheet behind a descriptor.
 pub fn rise_from(descriptor: i32, walk: Walk) -> Outcome
     ensures { λ r. ⌜ FromBytes r ⌝ }
 {
-    let mut buffer = [0u8; 1024];
+    let mut buffer = [0u8; SHEET_ROOM];
     let input = read_input(descriptor, &mut buffer);
     let Input::Length(length) = input else {
         return Outcome::Unread;

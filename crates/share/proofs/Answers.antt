@@ -3,13 +3,12 @@ use mathlib.Core.Path.{_≡_, ap, _∙_}
 use mathlib.Core.Bool.{true, false}
 use Prim.Native.Nat.{ℕ}
 use Rattle.exact.specs.Share.{Accepted}
-use Rattle.bounds.specs.declared.Bounds.{Bounds}
 use Rattle.refusals.specs.Ranges.{outside, _to_}
 use Rattle.refusals.specs.Apart.{partsOf, refusalIn}
 use Rattle.refusals.specs.declared.Refusal.{Refusal}
 use Rattle.refusals.proofs.Ranges.{passed-within}
 use Rattle.refusals.proofs.Apart.{refusal-back}
-use Rattle.cable.specs.Group.{Group, Given, accepted, refused}
+use Rattle.cable.specs.Group.{Group, Given, refused}
 use Rattle.cable.specs.InRange.{numbersIn, Acceptable}
 use Rattle.share.specs.Pair.{sharePair}
 use Rattle.share.specs.Answer.{mostMinutes, refused9, shareFrom, shareAnswer, statedShare}
@@ -32,8 +31,8 @@ module _ (g : Group) (minutes : ℕ) where
     share-given = rw (o, shareFrom)
 
 -- what is given decides
-pub answer-accepted : {given : Given} (minutes : ℕ) {g : Group} {r : ShareAnswer} → given ≡ accepted g → r ≡ shareFrom g minutes → r ≡ shareAnswer given minutes
-answer-accepted minutes e q = rw e q
+pub answer-given : {given is : Given} (minutes : ℕ) {r : ShareAnswer} → given ≡ is → r ≡ shareAnswer is minutes → r ≡ shareAnswer given minutes
+answer-given minutes e q = rw e q
 
 pub answer-refused : {given : Given} (minutes : ℕ) {f : Refusal} → given ≡ refused f → Refused f ≡ shareAnswer given minutes
 answer-refused minutes e = rw e

@@ -65,6 +65,7 @@ module _ (c : CableNumbers) (m : ℕ) (a : Accepted c m) where
     };
   }
 
+-- Document 02, note 2: "The share keeps its 50 millionths for any neighbours"
 pub share-promised : (g : Group) (minutes : ℕ) → Accepted (numbersIn g) minutes → Promised (widthOf g) (exactShare g minutes) (sharePair g minutes)
 share-promised g minutes a = rw (share-pair-is g minutes) (enclosed (numbersIn g) minutes a shareWidth (omega arith) (share-enclosed (numbersIn g) minutes a))
 

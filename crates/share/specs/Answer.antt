@@ -1,4 +1,5 @@
--- Document 01, 'The attained share' and 'When the desk is told no': the answer of a share, in the order 2, 3, 9.
+-- Document 01, 'The attained share' and 'When the desk is told no': the answer of a share, in the order 2, 3, 9. Document 02, note 2: of a sheet, "whose
+-- refusals then precede their own".
 use mathlib.Core.Path.{_≡_}
 use mathlib.Core.Bool.{cond}
 use mathlib.Core.List.{[], _∷_}

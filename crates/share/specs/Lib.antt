@@ -1,4 +1,5 @@
 pub mod Pair
+pub mod Sums
 pub mod Promises
 pub mod Answer
 pub mod Examples

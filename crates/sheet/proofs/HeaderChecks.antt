@@ -1,5 +1,5 @@
 -- The check of a header in each of its ways out, and what is known of a header that is accepted.
-use mathlib.Core.Path.{_≡_, refl, sym, ap, subst, _∙_}
+use mathlib.Core.Path.{_≡_, refl, ap, _∙_}
 use mathlib.Core.Bool.{Bool, true, false, cond}
 use mathlib.Core.List.{List}
 use Prim.Native.Nat.{ℕ, _≤_, _<_}
@@ -13,15 +13,10 @@ use Rattle.refusals.specs.declared.Place.the-variants.{None}
 use Rattle.refusals.specs.declared.Refusal.{Refusal}
 use Rattle.cable.specs.declared.CableCheck.{CableCheck}
 use Rattle.cable.specs.declared.CableCheck.the-variants as C
-use Rattle.cable.specs.Group as G
-use Rattle.cable.specs.Group.{Group}
-use Rattle.cable.specs.InRange.{Acceptable, Sound}
-use Rattle.cable.specs.Stated.{statedCheck}
-use Rattle.cable.proofs.Acceptance.{accepted-is, accepted-in-range}
+use Rattle.cable.proofs.Acceptance.{accepted-is}
 use Rattle.sheet.specs.Layout.{wrongLength}
-use Rattle.sheet.specs.Header.{cableOf, startingCurrent, firstLink, headerOf, mostStart, groupOf, afterCable, checkedHeader, asGiven, givenHeader}
+use Rattle.sheet.specs.Header.{cableOf, startingCurrent, firstLink, secondLink, headerOf, mostStart, afterCable, checkedHeader}
 use Rattle.sheet.specs.declared.Header.{Header}
-use Rattle.sheet.specs.declared.HeaderCheck.{HeaderCheck}
 use Rattle.sheet.specs.declared.HeaderCheck.the-variants.{Accepted, Refused}
 
 module _ (s : List ℕ) where
@@ -39,10 +34,10 @@ module _ (s : List ℕ) where
       unfolding checkedHeader
       start-refused h = rw (e, a, lt-ltb _ _ h, checkedHeader)
 
-      pub header-accepted : startingCurrent s ≤ mostStart → Accepted (record { cable = c; start = startingCurrent s; link = firstLink s }) ≡ checkedHeader s
+      pub header-accepted : startingCurrent s ≤ mostStart → Accepted (record { cable = c; start = startingCurrent s; link = firstLink s; neighbours = secondLink s }) ≡ checkedHeader s
       unfolding checkedHeader
       header-accepted h =
-          ap (λ d. Accepted (record { cable = d; start = startingCurrent s; link = firstLink s })) (accepted-is (cableOf s) c a)
+          ap (λ d. Accepted (record { cable = d; start = startingCurrent s; link = firstLink s; neighbours = secondLink s })) (accepted-is (cableOf s) c a)
           ∙ rw (e, a, le-ltb _ _ h, checkedHeader)
 
 -- what is known once a header is accepted
@@ -72,22 +67,3 @@ pub accepted-header : (s : List ℕ) {h : Header} → checkedHeader s ≡ Accept
 unfolding checkedHeader
 accepted-header s e =
     accepted s (wrongLength (length s)) (ltb mostStart (startingCurrent s)) (checked (cableOf s)) refl refl refl e
-
--- ---- what a header gives
-
-module _ (s : List ℕ) {g : Group} where
-  by-header : (a : HeaderCheck) → checkedHeader s ≡ a → asGiven a ≡ G.accepted g → checkedHeader s ≡ Accepted (headerOf s)
-  by-header (Accepted h) e p = e ∙ ap Accepted (accepted-header s e .is)
-  by-header (Refused f) e p = let z : _≡_ {A = ℕ} 0 1 = cc in absurd (omega arith)
-
-  pub given-header : givenHeader s ≡ G.accepted g → checkedHeader s ≡ Accepted (headerOf s)
-  given-header p = by-header (checkedHeader s) refl p
-
-  -- the group of its own cable, and no other
-  pub given-group : givenHeader s ≡ G.accepted g → groupOf s ≡ g
-  given-group p = let e : G.accepted (groupOf s) ≡ G.accepted g = ap asGiven (sym (given-header p)) ∙ p in cc
-
-pub header-sound : (s : List ℕ) → Sound (givenHeader s)
-header-sound s g p =
-    subst Acceptable (given-group s p)
-    (accepted-in-range (cableOf s) (ap (λ a. statedCheck a .number) (accepted-header s (given-header s p) .cable-accepted)))

@@ -5,13 +5,12 @@ use Prim.Native.Nat.{ℕ, _-_, _*_}
 use lib.Dec.{ltb}
 use lib.ListN.{length}
 use Rattle.cable.specs.Checks.{checked}
-use Rattle.cable.specs.Group.{Group, Given, accepted, refused, alone}
 use Rattle.cable.specs.declared.Cable.{Cable}
 use Rattle.refusals.specs.declared.Place.the-variants.{None}
 use Rattle.cable.specs.declared.CableCheck.{CableCheck}
 use Rattle.cable.specs.declared.CableCheck.the-variants as C
 use Rattle.sheet.specs.BigEndian.{bigEndian}
-use Rattle.sheet.specs.Layout.{wrongLength}
+use Rattle.sheet.specs.Layout.{shortHeader, isLong, wrongLength}
 use Rattle.sheet.specs.declared.Header.{Header}
 use Rattle.sheet.specs.declared.HeaderCheck.{HeaderCheck}
 use Rattle.sheet.specs.declared.HeaderCheck.the-variants.{Accepted, Refused}
@@ -33,18 +32,18 @@ cableOf s =
       rated = fieldOf s 8;
     }
 
--- the cable of the header, alone in its trench
-abbrev pub groupOf : List ℕ → Group
-groupOf s = alone (cableOf s)
-
 abbrev pub startingCurrent : List ℕ → ℕ
 startingCurrent s = bigEndian s 32 2
 
 abbrev pub firstLink : List ℕ → ℕ
 firstLink s = bigEndian s 34 2
 
+-- Document 02, note 2: "The header gains a second link in bytes 37 and 38, for a chain of neighbours"; a short header has none
+abbrev pub secondLink : List ℕ → ℕ
+secondLink s = cond (isLong (length s)) (bigEndian s shortHeader 2) 0
+
 abbrev pub headerOf : List ℕ → Header
-headerOf s = record { cable = cableOf s; start = startingCurrent s; link = firstLink s }
+headerOf s = record { cable = cableOf s; start = startingCurrent s; link = firstLink s; neighbours = secondLink s }
 
 -- "starting current above 4,000"
 abbrev pub mostStart : ℕ
@@ -65,11 +64,3 @@ checkedHeader s =
     (afterCable (checked (cableOf s))
     (cond (ltb mostStart (startingCurrent s)) (Refused (record { number = 4; place = None }))
     (Accepted (headerOf s))))
-
--- what a header gives a calculation: its cable alone in its trench, or its refusal
-abbrev pub asGiven : HeaderCheck → Given
-asGiven (Accepted h) = accepted (alone (h .cable))
-asGiven (Refused f) = refused f
-
-abbrev pub givenHeader : List ℕ → Given
-givenHeader s = asGiven (checkedHeader s)

@@ -2,6 +2,11 @@ pub mod BigEndian
 pub mod Layout
 pub mod Header
 pub mod Records
+pub mod Walk
 pub mod Chain
+pub mod Neighbours
+pub mod Sheet
 pub mod Promises
+pub mod ExampleSheets
 pub mod Examples
+pub mod ExamplesOfNeighbours

@@ -27,9 +27,9 @@ unfoldable pub recordOf : List ℕ → ℕ → LoadRecord
 recordOf s k =
     record {
       number = k;
-      minutes = bigEndian s (recordStart k) 2;
-      amperes = bigEndian s (recordStart k + 2) 2;
-      next = bigEndian s (recordStart k + 4) 2;
+      minutes = bigEndian s (recordStart (length s) k) 2;
+      amperes = bigEndian s (recordStart (length s) k + 2) 2;
+      next = bigEndian s (recordStart (length s) k + 4) 2;
     }
 
 -- "The cable carried the starting current for ever before the first step": the header as a record of number 0, as refusal 5 counts it, with

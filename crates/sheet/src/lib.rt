@@ -1,25 +1,37 @@
-// The load sheet: its bytes, its header with refusals 1 to 4, and one record with refusals 5 to 8. Document 01, 'The load sheet'.
+// The load sheet: its bytes, its header with refusals 1 to 4, and one record with refusals 5 to 8. Document 01, 'The load sheet'; document 02, note 2.
 ghost use mathlib.Core.Path.{_≡_};
 ghost use Prim.Native.Nat.{_+_, _*_, _≤_};
 ghost use lib.ListN.{length};
 ghost use Rattle.sheet.specs.BigEndian.{bigEndian};
-ghost use Rattle.sheet.specs.Layout.{headerLength, recordLength, mostRecords, recordStart, recordCount, wrongLength};
-ghost use Rattle.sheet.specs.Header.{fieldOf, cableOf, startingCurrent, firstLink};
+ghost use Rattle.sheet.specs.Layout.{shortHeader, recordLength, mostRecords, headerLength, recordStart, recordCount, wrongLength};
+ghost use Rattle.sheet.specs.Header.{fieldOf, cableOf, startingCurrent, firstLink, secondLink};
 ghost use Rattle.sheet.specs.Records.{recordOf, beforeFirst, refusedAt};
 ghost use Rattle.sheet.specs.Promises.{HeaderSaid, RecordReadAs, RecordSaid};
 
+mod neighbours;
 pub mod reader;
+mod whole;
 
 use cable::Cable;
 use cable::CableCheck;
+pub use neighbours::beside_first;
+pub use neighbours::image_of;
+pub use neighbours::near_of;
 use refusals::Place;
 use refusals::Refusal;
+pub use whole::Trench;
+pub use whole::TrenchCheck;
+pub use whole::check_sheet;
+pub use whole::given;
+pub use whole::given_alone;
+pub use whole::trench_of;
 
-// What stands before the records: the cable, the starting current in A and the first link.
+// What stands before the records: the cable, the starting current in A, the first link, and the first of the neighbours' links, 0 in a short header.
 pub struct Header {
     pub cable: Cable,
     pub start: u32,
     pub link: usize,
+    pub neighbours: usize,
 }
 
 // The header, or the first refusal in the order 1, 2, 3, 4.
@@ -28,7 +40,8 @@ pub enum HeaderCheck {
     Refused(Refusal),
 }
 
-// A record: its number, the minutes before now, the amperes from then on, the next link.
+// A record: its number, the minutes before now, the amperes from then on, the next link. On the chain of neighbours the same bytes are the offset to the side,
+// as it is written, and the depth.
 pub struct LoadRecord {
     pub number: u8,
     pub minutes: u32,
@@ -42,14 +55,16 @@ pub enum RecordRead {
     Missing,
 }
 
-// The record that a link leads to, or the first refusal in the order 5, 6, 7, 8.
+// The record that a link leads to, or its first refusal: in the order 5, 6, 7, 8 on the load chain, 14, 15, 16 on that of neighbours.
 pub enum RecordCheck {
     Accepted(LoadRecord),
     Refused(Refusal),
 }
 
 // In bytes.
-const HEADER_LENGTH: usize = 36;
+const SHORT_HEADER: usize = 36;
+
+const LONG_HEADER: usize = 38;
 
 const RECORD_LENGTH: usize = 6;
 
@@ -86,14 +101,26 @@ fn of_byte(byte: u8) -> u32
     byte as u32
 }
 
+// How long the header of a sheet of `size` bytes is: a second link stands in a long one.
+fn header_length(size: usize) -> usize
+    ensures { λ r. ⌜ r ≡ headerLength size ⌝ }
+{
+    if size % RECORD_LENGTH == LONG_HEADER % RECORD_LENGTH {
+        LONG_HEADER
+    } else {
+        SHORT_HEADER
+    }
+}
+
 // How many records a sheet of `size` bytes holds.
 fn record_count(size: usize) -> usize
     ensures { λ r. ⌜ r ≡ recordCount size ⌝ }
 {
-    if size < HEADER_LENGTH {
+    let header = header_length(size);
+    if size < header {
         0
     } else {
-        (size - HEADER_LENGTH) / RECORD_LENGTH
+        (size - header) / RECORD_LENGTH
     }
 }
 
@@ -102,19 +129,20 @@ fn wrong_length(size: usize) -> bool
     ensures { λ r. ⌜ r ≡ wrongLength size ⌝ }
 {
     let count = record_count(size);
-    MOST_RECORDS < count || size != HEADER_LENGTH + RECORD_LENGTH * count
+    let header = header_length(size);
+    MOST_RECORDS < count || size != header + RECORD_LENGTH * count
 }
 
 // Field `number` of the table, counted from 1.
 fn field(sheet: &[u8], number: usize) -> u32
-    requires { ⌜ (1 ≤ number) × (number ≤ 8) × (headerLength ≤ length (now sheet)) ⌝ }
+    requires { ⌜ (1 ≤ number) × (number ≤ 8) × (shortHeader ≤ length (now sheet)) ⌝ }
     ensures { λ r. ⌜ r ≡ fieldOf (now (sheet .entry)) number ⌝ }
 {
     number_at(sheet, 4 * (number - 1), 4)
 }
 
 fn cable_of(sheet: &[u8]) -> Cable
-    requires { ⌜ headerLength ≤ length (now sheet) ⌝ }
+    requires { ⌜ shortHeader ≤ length (now sheet) ⌝ }
     ensures { λ r. ⌜ r ≡ cableOf (now (sheet .entry)) ⌝ }
 {
     Cable {
@@ -130,17 +158,29 @@ fn cable_of(sheet: &[u8]) -> Cable
 }
 
 fn starting_current(sheet: &[u8]) -> u32
-    requires { ⌜ headerLength ≤ length (now sheet) ⌝ }
+    requires { ⌜ shortHeader ≤ length (now sheet) ⌝ }
     ensures { λ r. ⌜ r ≡ startingCurrent (now (sheet .entry)) ⌝ }
 {
     number_at(sheet, 32, 2)
 }
 
 fn first_link(sheet: &[u8]) -> usize
-    requires { ⌜ headerLength ≤ length (now sheet) ⌝ }
+    requires { ⌜ shortHeader ≤ length (now sheet) ⌝ }
     ensures { λ r. ⌜ r ≡ firstLink (now (sheet .entry)) ⌝ }
 {
     number_at(sheet, 34, 2) as usize
+}
+
+// A short header has no second link.
+fn second_link(sheet: &[u8]) -> usize
+    requires { ⌜ headerLength (length (now sheet)) ≤ length (now sheet) ⌝ }
+    ensures { λ r. ⌜ r ≡ secondLink (now (sheet .entry)) ⌝ }
+{
+    if header_length(sheet.len()) == SHORT_HEADER {
+        0
+    } else {
+        number_at(sheet, SHORT_HEADER, 2) as usize
+    }
 }
 
 // The header of a sheet of any length, or its first refusal.
@@ -166,7 +206,13 @@ pub fn check_header(sheet: &[u8]) -> HeaderCheck
         });
     }
     let link = first_link(sheet);
-    HeaderCheck::Accepted(Header { cable, start, link })
+    let neighbours = second_link(sheet);
+    HeaderCheck::Accepted(Header {
+        cable,
+        start,
+        link,
+        neighbours,
+    })
 }
 
 // The header as the record before the first: the starting current, from earlier than every step, and the first link.
@@ -199,10 +245,11 @@ pub fn record_at(sheet: &[u8], number: usize) -> RecordRead
 }
 
 fn held_record(sheet: &[u8], number: usize) -> LoadRecord
-    requires { ⌜ (1 ≤ number) × (number ≤ mostRecords) × (recordStart number + recordLength ≤ length (now sheet)) ⌝ }
+    requires { ⌜ (1 ≤ number) × (number ≤ mostRecords) × (recordStart (length (now sheet)) number + recordLength ≤ length (now sheet)) ⌝ }
     ensures { λ r. ⌜ r ≡ recordOf (now (sheet .entry)) number ⌝ }
 {
-    let at = HEADER_LENGTH + RECORD_LENGTH * (number - 1);
+    let header = header_length(sheet.len());
+    let at = header + RECORD_LENGTH * (number - 1);
     let minutes = number_at(sheet, at, 2);
     let amperes = number_at(sheet, at + 2, 2);
     let next = number_at(sheet, at + 4, 2) as usize;

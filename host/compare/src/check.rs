@@ -1,9 +1,11 @@
 //! Asking the library one question and judging its answer.
 
 use crate::distance::{require, Held, MOST_AMPERES};
-use crate::input::Input;
-use crate::judge;
+use crate::input::{Input, CALCULATIONS};
+use crate::trench::Trench;
+use crate::{judge, twins};
 use kechmowad::Refusal;
+use std::fmt::Debug;
 use std::hint::black_box;
 
 /// What came of one question.
@@ -18,12 +20,15 @@ pub struct Verdict {
 
 /// Results that a long run must not lack, for each of the calculations that it asks. No
 /// day meets the factor's cap: the mean of its 24 heating sums is μ, 1/24 or more, so that
-/// the largest gives 4,898 at most.
-pub const SPECIAL: [&str; 4] = [
+/// the largest gives 4,898 at most. Of a sheet it is an answer in which the neighbours tell.
+pub const SPECIAL: [&str; CALCULATIONS.len()] = [
     "low 0",
     "low below 0",
     "the hottest hour below the highest load",
     "the cap",
+    "another pair than alone",
+    "another factor than alone",
+    "another current than alone",
 ];
 
 impl Verdict {
@@ -42,35 +47,65 @@ impl Verdict {
     }
 }
 
-/// Asks the library, judges the answer, and sees that what was handed in is as it was.
-pub fn check(input: &Input) -> Verdict {
-    let handed = input.clone();
-    let mut verdict = match &handed {
-        Input::Share { cable, minutes } => {
-            let said = kechmowad::share(cable, *minutes);
-            let held = judge::share(cable, *minutes, said);
-            Verdict::new(said, |pair| pair.low == 0, held)
-        }
-        Input::Rise { sheet } => {
-            let said = kechmowad::rise(sheet);
-            Verdict::new(said, |pair| pair.low < 0, judge::rise(sheet, said))
-        }
-        Input::Factor { cable, hours } => {
-            let said = kechmowad::factor(cable, hours);
-            let held = judge::factor(cable, hours, said);
-            Verdict::new(said, |_| judge::hottest_elsewhere(cable, hours), held)
-        }
-        Input::Current {
-            cable,
+/// Judges an answer about a trench, also against those of sheets that say the same. What is
+/// special of a cable alone has its own rule; of a sheet it is that the neighbours tell.
+fn verdict<T: Copy + PartialEq + Debug>(
+    trench: &Trench,
+    ask: impl Fn(&Trench) -> Result<T, Refusal>,
+    judged: impl FnOnce(Result<T, Refusal>) -> Held,
+    alone: impl FnOnce(T) -> bool,
+) -> Verdict {
+    let said = ask(trench);
+    let held = judged(said).and_then(|()| twins::of_trench(trench, said, &ask));
+    let special = |result| match trench {
+        Trench::Alone(_) => alone(result),
+        Trench::Sheet(_) => trench.tells(&ask),
+    };
+    Verdict::new(said, special, held)
+}
+
+/// Judges a rise, also against those of sheets that say the same.
+fn rise(sheet: &[u8]) -> Verdict {
+    let said = kechmowad::rise(sheet);
+    let held = judge::rise(sheet, said);
+    let held = held.and_then(|()| twins::of_rise(sheet, said, kechmowad::rise));
+    Verdict::new(said, |pair| pair.low < 0, held)
+}
+
+/// Asks the library and judges the answer.
+fn judged(input: &Input) -> Verdict {
+    match input {
+        Input::Rise { sheet } => rise(sheet),
+        Input::Share { trench, minutes } => verdict(
+            trench,
+            |trench| trench.share(*minutes),
+            |said| judge::share(trench, *minutes, said),
+            |pair| pair.low == 0,
+        ),
+        Input::Factor { trench, hours } => verdict(
+            trench,
+            |trench| trench.factor(hours),
+            |said| judge::factor(trench, hours, said),
+            |_| judge::hottest_elsewhere(trench, hours),
+        ),
+        &Input::Current {
+            ref trench,
             h,
             r,
             minutes,
-        } => {
-            let said = kechmowad::current(cable, *h, *r, *minutes);
-            let held = judge::current(cable, *h, *r, *minutes, said);
-            Verdict::new(said, |i| i == MOST_AMPERES, held)
-        }
-    };
+        } => verdict(
+            trench,
+            |trench| trench.current(h, r, minutes),
+            |said| judge::current(trench, h, r, minutes, said),
+            |i| i == MOST_AMPERES,
+        ),
+    }
+}
+
+/// Asks the library, judges the answer, and sees that what was handed in is as it was.
+pub fn check(input: &Input) -> Verdict {
+    let handed = input.clone();
+    let mut verdict = judged(&handed);
     // Read again from memory: the compiler may otherwise take a lent thing as unchanged.
     let unchanged = *black_box(&handed) == *input;
     verdict.held = verdict

@@ -2,54 +2,53 @@
 
 use crate::numbers::{any_cable, any_emergency, any_hours, any_minutes, late_day};
 use crate::random::Random;
-use crate::sheets::any_sheet;
-use kechmowad::Cable;
+use crate::sheets::{any_sheet, mostly_accepted};
+use crate::trench::Trench;
 use std::fmt;
 
 /// What is asked.
 #[derive(Debug, Clone, PartialEq)]
 pub enum Input {
     Share {
-        cable: Cable,
+        trench: Trench,
         minutes: u32,
     },
     Rise {
         sheet: Vec<u8>,
     },
     Factor {
-        cable: Cable,
+        trench: Trench,
         hours: [u16; 24],
     },
     Current {
-        cable: Cable,
+        trench: Trench,
         h: u32,
         r: u32,
         minutes: u32,
     },
 }
 
-/// The calculations, in the order of their tallies.
-pub const CALCULATIONS: [&str; 4] = ["share", "rise", "factor", "current"];
+/// The calculations, in the order of their tallies: three of them of a cable alone, and
+/// again of a sheet.
+pub const CALCULATIONS: [&str; 7] = [
+    "share",
+    "rise",
+    "factor",
+    "current",
+    "share in sheet",
+    "factor in sheet",
+    "current in sheet",
+];
 
 impl Input {
     /// A sheet or a set of numbers of any kind.
     pub fn any(random: &mut Random) -> Input {
-        match random.below(10) {
-            0..=3 => Input::Share {
-                cable: any_cable(random),
-                minutes: any_minutes(random),
-            },
-            4..=6 => Input::any_rise(random),
-            7 => Input::any_factor(random),
-            _ => {
-                let (h, r) = any_emergency(random);
-                Input::Current {
-                    cable: any_cable(random),
-                    h,
-                    r,
-                    minutes: any_minutes(random),
-                }
-            }
+        match random.below(16) {
+            0..=3 => Input::any_share(Trench::Alone(any_cable(random)), random),
+            4..=7 => Input::any_rise(random),
+            8 => Input::any_factor(random),
+            9 | 10 => Input::any_current(Trench::Alone(any_cable(random)), random),
+            _ => Input::any_in_sheet(random),
         }
     }
 
@@ -67,39 +66,80 @@ impl Input {
         } else {
             (any_cable(random), any_hours(random))
         };
-        Input::Factor { cable, hours }
+        Input::Factor {
+            trench: Trench::Alone(cable),
+            hours,
+        }
+    }
+
+    /// A share, a factor or a current of a sheet, which is mostly accepted.
+    pub fn any_in_sheet(random: &mut Random) -> Input {
+        let trench = Trench::Sheet(mostly_accepted(random));
+        match random.below(5) {
+            0 | 1 => Input::any_share(trench, random),
+            2 => Input::Factor {
+                trench,
+                hours: any_hours(random),
+            },
+            _ => Input::any_current(trench, random),
+        }
+    }
+
+    fn any_share(trench: Trench, random: &mut Random) -> Input {
+        Input::Share {
+            trench,
+            minutes: any_minutes(random),
+        }
+    }
+
+    fn any_current(trench: Trench, random: &mut Random) -> Input {
+        let (h, r) = any_emergency(random);
+        Input::Current {
+            trench,
+            h,
+            r,
+            minutes: any_minutes(random),
+        }
     }
 
     /// The place of its calculation among `CALCULATIONS`.
     pub fn calculation(&self) -> usize {
         match self {
-            Input::Share { .. } => 0,
+            Input::Share { trench, .. } => of_sheet(trench, 0, 4),
             Input::Rise { .. } => 1,
-            Input::Factor { .. } => 2,
-            Input::Current { .. } => 3,
+            Input::Factor { trench, .. } => of_sheet(trench, 2, 5),
+            Input::Current { trench, .. } => of_sheet(trench, 3, 6),
         }
     }
 
-    /// The sheet, or the numbers in their order, big-endian.
+    /// The sheet or the cable, and the other numbers in their order, big-endian.
     fn bytes(&self) -> Vec<u8> {
-        let long = |cable: &Cable, rest: &[u32]| -> Vec<u8> {
-            let numbers = cable.fields().iter().chain(rest);
-            numbers.flat_map(|number| number.to_be_bytes()).collect()
+        let with = |trench: &Trench, rest: &[u32]| -> Vec<u8> {
+            let rest = rest.iter().flat_map(|number| number.to_be_bytes());
+            trench.bytes().into_iter().chain(rest).collect()
         };
         match self {
-            Input::Share { cable, minutes } => long(cable, &[*minutes]),
+            Input::Share { trench, minutes } => with(trench, &[*minutes]),
             Input::Rise { sheet } => sheet.clone(),
-            Input::Factor { cable, hours } => {
+            Input::Factor { trench, hours } => {
                 let hours = hours.iter().flat_map(|hour| hour.to_be_bytes());
-                long(cable, &[]).into_iter().chain(hours).collect()
+                with(trench, &[]).into_iter().chain(hours).collect()
             }
             Input::Current {
-                cable,
+                trench,
                 h,
                 r,
                 minutes,
-            } => long(cable, &[*h, *r, *minutes]),
+            } => with(trench, &[*h, *r, *minutes]),
         }
+    }
+}
+
+/// One of two places, by where the cable is taken from.
+fn of_sheet(trench: &Trench, alone: usize, sheet: usize) -> usize {
+    match trench {
+        Trench::Alone(_) => alone,
+        Trench::Sheet(_) => sheet,
     }
 }
 

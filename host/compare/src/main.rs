@@ -1,8 +1,7 @@
 //! The differential test's command line.
 
 use compare::program::{self, Walks};
-use compare::{check, pages, shown, table, Input, Run, Tally};
-use std::ops::Range;
+use compare::{check, pages, reference, shown, table, Input, Run, Tally};
 use std::path::Path;
 use std::process::ExitCode;
 use std::time::{SystemTime, UNIX_EPOCH};
@@ -12,6 +11,7 @@ usage: compare [COUNT [SEED]]                library against second program
        compare long                          the same, 10,000,000 inputs, seed from the clock
        compare rise PROGRAMS [COUNT [SEED]]  the same with sheets, through the PROGRAMS too
        compare table PROGRAMS                the table of 1972 through the PROGRAMS
+       compare reference PROGRAMS            the rows of data/reference-notes.tsv, by library and PROGRAMS
        compare shown ROOT PROGRAMS FILE..    the commands that files of ROOT show, run with PROGRAMS
        compare pages ROOT PROGRAMS           the tables of ROOT's pages, against library and PROGRAMS
 PROGRAMS is the folder of the built programs. What rise gets goes to rise_by_reader too.";
@@ -25,12 +25,16 @@ const LONG_COUNT: u64 = 10_000_000;
 /// Inputs between two signs of life.
 const BLOCK: u64 = 1_000_000;
 
+/// Refusals of a sheet, and those of what is asked.
+const OF_SHEET: [usize; 11] = [1, 2, 3, 4, 5, 6, 7, 8, 14, 15, 16];
+const OF_QUESTION: [usize; 5] = [9, 10, 11, 12, 13];
+
 /// From so many inputs on, a refusal or a special result that never came is a failure.
 const ENOUGH: u64 = 2_000;
 
 /// Asks so many inputs, prints the tally, and tells whether all agreed and each of the
 /// refusals and special results came.
-fn run(run: &Run, count: u64, refusals: Range<usize>) -> bool {
+fn run(run: &Run, count: u64, refusals: &[usize]) -> bool {
     println!("seed {}, {count} inputs", run.seed);
     let mut tally = Tally::default();
     for start in (0..count).step_by(BLOCK as usize) {
@@ -59,10 +63,11 @@ fn against_second(count: u64, seed: u64) -> bool {
         make: Input::any,
         check: &check,
     };
-    run(&asked, count, 1..14)
+    let refusals = [&OF_SHEET[..], &OF_QUESTION].concat();
+    run(&asked, count, &refusals)
 }
 
-/// Sheets through the programs; a sheet meets refusals 1 to 8.
+/// Sheets through the programs, and one of every length.
 fn through_programs(programs: &str, count: u64, seed: u64) -> bool {
     let walks = Walks::of(Path::new(programs));
     let asked = Run {
@@ -70,9 +75,10 @@ fn through_programs(programs: &str, count: u64, seed: u64) -> bool {
         make: Input::any_rise,
         check: &|input| program::check(&walks, input),
     };
-    let agreed = run(&asked, count, 1..9);
+    let agreed = run(&asked, count, &OF_SHEET);
+    let lengths = program::every_length(&walks);
     println!("{walks}");
-    agreed
+    agreed && lengths
 }
 
 fn clock() -> u64 {
@@ -99,6 +105,7 @@ fn command(words: &[&str]) -> Option<bool> {
         }
         ["pages", root, programs] => Some(pages::run(Path::new(root), Path::new(programs))),
         ["table", programs] => Some(table::run(Path::new(programs))),
+        ["reference", programs] => Some(reference::run(Path::new(programs))),
         ["rise", programs, rest @ ..] => {
             let (count, seed) = numbers(rest, GATE_SHEETS)?;
             Some(through_programs(programs, count, seed))

@@ -5,6 +5,7 @@ mod cable;
 mod cells;
 mod examples;
 mod explain;
+mod neighbours;
 mod promised;
 mod questions;
 mod refusals;
@@ -70,7 +71,7 @@ const CLAIMS: [Claim; 7] = [
     Claim {
         page: PAGES[2],
         section: "Sheets to try",
-        header: "sheet | before | steps | prints",
+        header: "sheet | before | steps | neighbours | prints",
         check: examples::check,
     },
 ];

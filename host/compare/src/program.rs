@@ -6,7 +6,8 @@ use crate::check::Verdict;
 use crate::distance::{require, Held};
 use crate::input::Input;
 use crate::judge;
-use kechmowad::{Bounds, Refusal};
+use crate::numbers::USUAL;
+use kechmowad::{Bounds, Cable, Refusal};
 use std::fmt;
 use std::io::{ErrorKind, Write};
 use std::path::Path;
@@ -121,4 +122,24 @@ pub fn check(walks: &Walks, input: &Input) -> Verdict {
         .and_then(|line| spelled(&line, &said))
         .and_then(|()| judge::rise(sheet, said));
     Verdict::new(said, |pair| pair.low < 0, held)
+}
+
+/// Longest sheet of `every_length`, in bytes.
+const LENGTHS: usize = 340;
+
+/// Asks for the rise of a sheet of every length: cable A, 300 A, and zero bytes, which are
+/// links that end a chain. Says what came of it, and whether all agree.
+pub fn every_length(walks: &Walks) -> bool {
+    let head = kechmowad::sheet(&Cable::from(USUAL), 300, 0, &[]);
+    let mut agreeing = 0;
+    for length in 0..=LENGTHS {
+        let mut sheet = head.clone();
+        sheet.resize(length, 0);
+        match check(walks, &Input::Rise { sheet }).held {
+            Ok(()) => agreeing += 1,
+            Err(why) => println!("DISAGREEMENT\n{length} bytes: {why}"),
+        }
+    }
+    println!("{agreeing} of {} lengths agree", LENGTHS + 1);
+    agreeing == LENGTHS + 1
 }

@@ -12,7 +12,10 @@ use std::thread;
 const SHOWN: usize = 3;
 
 /// The refusals' numbers.
-const REFUSALS: Range<usize> = 1..14;
+const REFUSALS: Range<usize> = 1..17;
+
+/// How many calculations are tallied.
+const KINDS: usize = CALCULATIONS.len();
 
 /// What is asked and how an answer is judged.
 pub struct Run<'a> {
@@ -24,9 +27,9 @@ pub struct Run<'a> {
 /// What came of a run.
 #[derive(Default)]
 pub struct Tally {
-    asked: [u64; 4],
-    accepted: [u64; 4],
-    special: [u64; 4],
+    asked: [u64; KINDS],
+    accepted: [u64; KINDS],
+    special: [u64; KINDS],
     refused: [u64; REFUSALS.end],
     disagreed: u64,
     /// Index and words of the first disagreements.
@@ -115,9 +118,10 @@ impl Tally {
     }
 
     /// Those of these refusals, and of the special results of what was asked, that never came.
-    pub fn missing(&self, numbers: Range<usize>) -> Vec<String> {
+    pub fn missing(&self, numbers: &[usize]) -> Vec<String> {
         let refusals = numbers
-            .filter(|&number| self.refused[number] == 0)
+            .iter()
+            .filter(|&&number| self.refused[number] == 0)
             .map(|number| format!("refusal {number}"));
         let special = (0..SPECIAL.len())
             .filter(|&i| self.asked[i] > 0 && self.special[i] == 0)
@@ -134,7 +138,7 @@ impl fmt::Display for Tally {
                 let refused = asked - accepted;
                 write!(
                     f,
-                    "{name:8} {asked:9} asked, {accepted:9} accepted, {refused:9} refused"
+                    "{name:16} {asked:9} asked, {accepted:9} accepted, {refused:9} refused"
                 )?;
                 writeln!(f, ", {special:7} with {}", SPECIAL[i])?;
             }

@@ -3,7 +3,7 @@
 //! slightly higher peak elsewhere; most of those are hottest at another hour than that of
 //! the highest load, and there a factor by the highest load's hour is told.
 
-use compare::{judge, Input, Random};
+use compare::{judge, Input, Random, Trench};
 use kechmowad::{share, Bounds, Cable};
 use std::collections::BTreeSet;
 
@@ -36,7 +36,10 @@ fn heating((cable, hours): &Day) -> Option<second::Factor> {
 fn days() -> Vec<Day> {
     let drawn = (0..DRAWN).map(|index| Input::any_factor(&mut Random::new(SEED, index)));
     let days = drawn.map(|input| match input {
-        Input::Factor { cable, hours } => (cable, hours),
+        Input::Factor {
+            trench: Trench::Alone(cable),
+            hours,
+        } => (cable, hours),
         other => panic!("not a day: {other}"),
     });
     days.filter(|day| heating(day).is_some()).collect()
@@ -150,10 +153,11 @@ fn a_factor_by_the_highest_loads_hour_is_told() {
     let mut told = 0;
     for day in &days {
         let (cable, hours) = day;
+        let trench = Trench::Alone(*cable);
         let right = factor_of_hottest(day);
-        assert_eq!(judge::factor(cable, hours, Ok(right)), Ok(()));
+        assert_eq!(judge::factor(&trench, hours, Ok(right)), Ok(()));
         let wrong = factor_of(rounded_sum(day, highest_hour(hours)));
-        let judged = judge::factor(cable, hours, Ok(wrong));
+        let judged = judge::factor(&trench, hours, Ok(wrong));
         assert_eq!(judged.is_err(), wrong != right, "{day:?}: {judged:?}");
         told += usize::from(judged.is_err());
     }

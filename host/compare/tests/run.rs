@@ -1,6 +1,6 @@
 //! A run: the same inputs for the same seed, and what it says where an answer disagrees.
 
-use compare::{check, program, Input, Random, Run};
+use compare::{check, program, Input, Random, Run, Trench};
 use kechmowad::{Bounds, Cable, Condition, Place, Refusal};
 
 #[test]
@@ -57,9 +57,9 @@ fn a_refusal_that_never_came_is_missing() {
         make: Input::any_rise,
         check: &check,
     };
-    // A sheet meets no refusal above 8.
+    // A rise meets none of the refusals of what else is asked.
     let never: Vec<String> = (9..14).map(|number| format!("refusal {number}")).collect();
-    assert_eq!(run.over(0..300).missing(9..14), never);
+    assert_eq!(run.over(0..300).missing(&[9, 10, 11, 12, 13]), never);
 }
 
 #[test]
@@ -67,15 +67,35 @@ fn days_that_are_all_even_lack_a_hottest_hour_elsewhere() {
     let lacks = |make, count| {
         let seed = 3;
         let check = &check;
-        Run { seed, make, check }.over(0..count).missing(0..0)
+        Run { seed, make, check }.over(0..count).missing(&[])
     };
     let even = |_: &mut Random| Input::Factor {
-        cable: Cable::from([500, 1_000, 500, 600_000, 500_000, 1_000, 100, 400]),
+        trench: Trench::Alone(cable_a()),
         hours: [200; 24],
     };
     let words = "factor with the hottest hour below the highest load";
     assert_eq!(lacks(even, 3), [words]);
     assert!(lacks(Input::any_factor, 300).is_empty());
+}
+
+/// Cable A of document 01.
+fn cable_a() -> Cable {
+    Cable::from([500, 1_000, 500, 600_000, 500_000, 1_000, 100, 400])
+}
+
+#[test]
+fn sheets_without_neighbours_lack_an_answer_in_which_they_tell() {
+    let lacks = |make, count| {
+        let (seed, check) = (3, &check);
+        Run { seed, make, check }.over(0..count).missing(&[])
+    };
+    let lonely = |random: &mut Random| Input::Share {
+        trench: Trench::Sheet(kechmowad::sheet(&cable_a(), 300, 0, &[])),
+        minutes: random.from_to(1, 2_880),
+    };
+    let words = "share in sheet with another pair than alone";
+    assert_eq!(lacks(lonely, 3), [words]);
+    assert!(lacks(Input::any_in_sheet, 1_000).is_empty());
 }
 
 #[test]

@@ -1,9 +1,9 @@
 //! Times this program on the cases of bench/cases.txt, read from standard input
 //! without their comments, for bench/run. A line for each: name, microseconds, and
 //! the exact value in millionths: share and rise; the largest heating sum T of a factor;
-//! the share G of a current.
+//! the share G of a current. A trench is a rise with neighbours.
 
-use second::{current, factor, rise, share, sheet, Cable, Refusal};
+use second::{current, factor, long_sheet, rise, share, sheet, Cable, Refusal};
 use std::hint::black_box;
 use std::io::Read;
 use std::time::Instant;
@@ -61,6 +61,12 @@ impl Words<'_> {
         }
     }
 
+    /// An offset in two's complement: it may have a minus sign.
+    fn offset(&mut self) -> u16 {
+        let word = self.0.next().expect("a case cut short");
+        word.parse::<i16>().expect("a whole number") as u16
+    }
+
     /// The records of a rise's sheet, in the order of its chain.
     fn records(&mut self) -> Vec<(u16, u16, u16)> {
         let steps = self.small();
@@ -68,6 +74,33 @@ impl Words<'_> {
         (1..=steps)
             .map(|i| (self.small(), self.small(), next(i)))
             .collect()
+    }
+
+    /// The records of neighbours, which stand behind so many steps.
+    fn neighbours(&mut self, steps: u16) -> Vec<(u16, u16, u16)> {
+        let last = steps + self.small();
+        let next = |i| if i < last { i + 1 } else { 0 };
+        (steps + 1..=last)
+            .map(|i| (self.offset(), self.small(), next(i)))
+            .collect()
+    }
+
+    /// The sheet of a rise, with neighbours or without.
+    fn sheet(&mut self, c: &Cable, trench: bool) -> Vec<u8> {
+        let start = self.small();
+        let mut records = self.records();
+        let steps = records.len() as u16;
+        let first = u16::from(steps > 0);
+        if !trench {
+            return sheet(c, start, first, &records);
+        }
+        records.extend(self.neighbours(steps));
+        let second = if records.len() as u16 > steps {
+            steps + 1
+        } else {
+            0
+        };
+        long_sheet(c, start, first, second, &records)
     }
 }
 
@@ -82,10 +115,8 @@ fn work_of(question: &str, words: &mut Words) -> Box<dyn Fn() -> f64> {
             let minutes = words.number();
             Box::new(move || met(share(black_box(&c), black_box(minutes))))
         }
-        "rise" => {
-            let start = words.small();
-            let records = words.records();
-            let bytes = sheet(&c, start, u16::from(!records.is_empty()), &records);
+        "rise" | "trench" => {
+            let bytes = words.sheet(&c, question == "trench");
             Box::new(move || met(rise(black_box(&bytes))).exact_millionths)
         }
         "factor" => {

@@ -1,5 +1,7 @@
 //! The exponential integral, and a sum that keeps its rounding losses.
 
+use std::sync::LazyLock;
+
 /// Euler's constant.
 const EULER: f64 = 0.577_215_664_901_532_9;
 
@@ -83,8 +85,10 @@ pub fn exponential_integral(x: f64) -> f64 {
 
 /// J: the integral of e^(−u)/u from p to q, for 0 < p ≤ q.
 ///
-/// For an accepted cable q is at least 64 times p, so that neither difference
-/// below cancels. Near limits are served as well, by Gauss's rule.
+/// For an accepted cable q is at least 64 times p, so that neither difference below
+/// cancels. For a neighbour it may be 1.04 times p: limits that are near each other are
+/// served by Gauss's rule, and where they are more than 1 apart E1(q) is less than half of
+/// E1(p).
 pub fn integral_between(p: f64, q: f64) -> f64 {
     if q <= 2.0 * p && q - p <= 1.0 {
         near_limits(p, q)
@@ -102,32 +106,40 @@ pub fn integral_between(p: f64, q: f64) -> f64 {
 
 /// J by Gauss's rule of sixteen points, for q ≤ 2p and q − p ≤ 1.
 fn near_limits(p: f64, q: f64) -> f64 {
-    const POINTS: usize = 16;
     let half = (q - p) / 2.0;
     let middle = p + half;
+    let height = |u: f64| (-u).exp() / u;
     let mut sum = Sum::default();
-    for i in 0..POINTS / 2 {
-        // Root i of the Legendre polynomial, by Newton's rule.
-        let n = POINTS as f64;
-        let mut z = (std::f64::consts::PI * (i as f64 + 0.75) / (n + 0.5)).cos();
-        let mut slope = 1.0;
-        for _ in 0..20 {
-            let (mut now, mut before) = (1.0, 0.0);
-            for j in 1..=POINTS {
-                let k = j as f64;
-                (now, before) = (((2.0 * k - 1.0) * z * now - (k - 1.0) * before) / k, now);
-            }
-            slope = n * (z * now - before) / (z * z - 1.0);
-            let step = now / slope;
-            z -= step;
-            if step.abs() < 1e-16 {
-                break;
-            }
-        }
-        let weight = 2.0 / ((1.0 - z * z) * slope * slope);
-        for u in [middle - half * z, middle + half * z] {
-            sum.add(weight * (-u).exp() / u);
-        }
+    for &(root, weight) in ROOTS.iter() {
+        sum.add(weight * height(middle - half * root));
+        sum.add(weight * height(middle + half * root));
     }
     half * sum.value()
+}
+
+/// Points of Gauss's rule.
+const POINTS: usize = 16;
+
+/// The positive roots of the Legendre polynomial of sixteen points, and their weights.
+static ROOTS: LazyLock<[(f64, f64); POINTS / 2]> = LazyLock::new(|| std::array::from_fn(root));
+
+/// The polynomial and its slope.
+fn legendre(z: f64) -> (f64, f64) {
+    let (mut now, mut before) = (1.0, 0.0);
+    for j in 1..=POINTS {
+        let k = j as f64;
+        (now, before) = (((2.0 * k - 1.0) * z * now - (k - 1.0) * before) / k, now);
+    }
+    (now, POINTS as f64 * (z * now - before) / (z * z - 1.0))
+}
+
+/// Root and weight of that number, by Newton's rule.
+fn root(i: usize) -> (f64, f64) {
+    let mut z = (std::f64::consts::PI * (i as f64 + 0.75) / (POINTS as f64 + 0.5)).cos();
+    for _ in 0..20 {
+        let (value, slope) = legendre(z);
+        z -= value / slope;
+    }
+    let (_, slope) = legendre(z);
+    (z, 2.0 / ((1.0 - z * z) * slope * slope))
 }

@@ -1,23 +1,23 @@
-//! Cyclic and emergency ratings of a buried cable in f64: the exact attained
-//! share, the rise after a load history, the largest heating sum of a daily
-//! cycle and the emergency current, each with its refusals.
+//! Cyclic and emergency ratings of a buried cable in f64, alone or with neighbours in its
+//! trench: the exact attained share, the rise after a load history, the largest heating
+//! sum of a daily cycle and the emergency current, each with its refusals.
 
+mod group;
 mod integral;
 mod sheet;
 
+pub use group::Neighbour;
 pub use integral::{exponential_integral, integral_between};
-pub use sheet::{rise, sheet, Rise};
+pub use sheet::{long_sheet, rise, sheet, Rise};
 
+use group::Group;
 use integral::Sum;
-use sheet::{MOST_AMPERES, MOST_MINUTES};
+use sheet::{read, MOST_AMPERES, MOST_MINUTES};
 
 pub(crate) const MILLION: f64 = 1_000_000.0;
 
 /// Highest preload and highest limit, in percent.
 const MOST_PERCENT: u32 = 200;
-
-/// Soil diffusivity that a 0 stands for, in 10^-9 m²/s.
-const USUAL_DIFFUSIVITY: u32 = 500;
 
 /// A cable in soil, in whole numbers.
 #[derive(Debug, Clone, Copy, PartialEq, Eq)]
@@ -28,7 +28,8 @@ pub struct Cable {
     pub l: u32,
     /// Soil diffusivity, 10^-9 m²/s; 0 stands for 500.
     pub s: u32,
-    /// Steady surface rise over conductor rise, millionths.
+    /// Steady surface rise over conductor rise, millionths; with neighbours the ratio for
+    /// the whole group.
     pub k: u32,
     /// Weight of the fast part, millionths.
     pub w: u32,
@@ -120,46 +121,20 @@ fn check_minutes(minutes: u32) -> Result<(), Refusal> {
     }
 }
 
-/// p and q, the limits of the exponential integral: De²/(16tδ) and L²/(tδ).
-fn limits(c: &Cable, minutes: u32) -> (f64, f64) {
-    let diffusivity = if c.s == 0 { USUAL_DIFFUSIVITY } else { c.s };
-    // Seconds times 10^-9 m²/s; every whole number here is exact in f64.
-    let spread = f64::from(60 * minutes) * f64::from(diffusivity);
-    let (d, l) = (f64::from(c.d), f64::from(c.l));
-    (5.0 * d * d / (8.0 * spread), 1_000.0 * l * l / spread)
-}
-
-/// β: attainment of the cable surface, a fraction of one.
-fn surface_attainment(c: &Cable, minutes: u32) -> f64 {
-    let (p, q) = limits(c, minutes);
-    let (d, l) = (f64::from(c.d), f64::from(c.l));
-    let steady = (1_600.0 * l * l / (d * d)).ln();
-    integral_between(p, q) / steady
-}
-
-/// Attainment of the conductor over the surface, in millionths.
-fn conductor_attainment(c: &Cable, minutes: u32) -> f64 {
-    let seconds = u64::from(60 * minutes);
-    // 1 − e^(−rate·t), without loss where the exponent is small.
-    let attained = |rate: u32| -(-((u64::from(rate) * seconds) as f64) / MILLION).exp_m1();
-    f64::from(c.w) * attained(c.fast) + f64::from(1_000_000 - c.w) * attained(c.slow)
-}
-
-/// G in millionths, for a cable and minutes already checked.
-pub(crate) fn exact_share(c: &Cable, minutes: u32) -> f64 {
-    // The surface part is left out for k = 0, where it weighs nothing.
-    let mut ground = f64::from(1_000_000 - c.k);
-    if c.k > 0 {
-        ground += f64::from(c.k) * surface_attainment(c, minutes);
-    }
-    ground * conductor_attainment(c, minutes) / MILLION
-}
-
 /// The attained share G in millionths. Refusals 2, 3, 9.
 pub fn share(c: &Cable, minutes: u32) -> Result<f64, Refusal> {
     check_cable(c)?;
+    share_of(&Group::alone(c), minutes)
+}
+
+/// The share of a sheet's cable and neighbours. All of the sheet's refusals, then 9.
+pub fn share_in_sheet(sheet: &[u8], minutes: u32) -> Result<f64, Refusal> {
+    share_of(&read(sheet)?.group, minutes)
+}
+
+fn share_of(group: &Group, minutes: u32) -> Result<f64, Refusal> {
     check_minutes(minutes)?;
-    Ok(exact_share(c, minutes))
+    Ok(group.share(minutes))
 }
 
 /// The heating sum with that hour as the reference, in millionths, times 24 and the
@@ -186,6 +161,15 @@ fn heating_sum(squares: &[i64; 24], all: i64, shares: &[f64; 6], hour: usize) ->
 /// sum'.
 pub fn factor(c: &Cable, hours: &[u16; 24]) -> Result<Factor, Refusal> {
     check_cable(c)?;
+    factor_of(&Group::alone(c), hours)
+}
+
+/// The same of a sheet's cable and neighbours. All of the sheet's refusals, then 10, 11.
+pub fn factor_in_sheet(sheet: &[u8], hours: &[u16; 24]) -> Result<Factor, Refusal> {
+    factor_of(&read(sheet)?.group, hours)
+}
+
+fn factor_of(group: &Group, hours: &[u16; 24]) -> Result<Factor, Refusal> {
     if let Some(hour) = hours.iter().position(|&amperes| amperes > MOST_AMPERES) {
         return Err(Refusal {
             number: 10,
@@ -201,7 +185,7 @@ pub fn factor(c: &Cable, hours: &[u16; 24]) -> Result<Factor, Refusal> {
     }
 
     let all = squares.iter().sum();
-    let shares = [1, 2, 3, 4, 5, 6].map(|hour| exact_share(c, 60 * hour));
+    let shares = [1, 2, 3, 4, 5, 6].map(|hour| group.share(60 * hour));
     let (mut reference_hour, mut largest) = (0, f64::NEG_INFINITY);
     for hour in 0..24 {
         let sum = heating_sum(&squares, all, &shares, hour);
@@ -219,6 +203,15 @@ pub fn factor(c: &Cable, hours: &[u16; 24]) -> Result<Factor, Refusal> {
 /// limit of r percent of rated rise. Refusals 2, 3, 9, 12, 13.
 pub fn current(c: &Cable, h: u32, r: u32, minutes: u32) -> Result<Current, Refusal> {
     check_cable(c)?;
+    current_of(&Group::alone(c), h, r, minutes)
+}
+
+/// The same of a sheet's cable and neighbours. All of the sheet's refusals, then 9, 12, 13.
+pub fn current_in_sheet(sheet: &[u8], h: u32, r: u32, minutes: u32) -> Result<Current, Refusal> {
+    current_of(&read(sheet)?.group, h, r, minutes)
+}
+
+fn current_of(group: &Group, h: u32, r: u32, minutes: u32) -> Result<Current, Refusal> {
     check_minutes(minutes)?;
     for (input, fits) in [(1, h <= MOST_PERCENT), (2, (1..=MOST_PERCENT).contains(&r))] {
         if !fits {
@@ -231,10 +224,10 @@ pub fn current(c: &Cable, h: u32, r: u32, minutes: u32) -> Result<Current, Refus
     if h * h > 100 * r {
         return Err(Refusal::nowhere(13));
     }
-    let share_millionths = exact_share(c, minutes);
+    let share_millionths = group.share(minutes);
     // (10,000·i² − h²·rated²)·G = (100·r − h²)·rated²·1,000,000, solved for i.
     let spare = f64::from(100 * r - h * h) * MILLION / share_millionths;
-    let exact_amperes = f64::from(c.rated) * (f64::from(h * h) + spare).sqrt() / 100.0;
+    let exact_amperes = f64::from(group.cable.rated) * (f64::from(h * h) + spare).sqrt() / 100.0;
     Ok(Current {
         exact_amperes,
         share_millionths,

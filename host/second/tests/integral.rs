@@ -64,6 +64,31 @@ fn accepted_limits_against_quadrature() {
 }
 
 #[test]
+fn limits_of_neighbours_against_quadrature() {
+    // c² and m² of neighbours that touch, lie across a trench, or lie as far and as shallow
+    // as may be, so that m² is 1.04 times c².
+    for (near, image) in [
+        (100.0, 1e8 + 100.0),
+        (2_500.0, 4_002_500.0),
+        (40_000.0, 4_040_000.0),
+        (9e6, 9.36e6),
+        (3.109e7, 3.709e7),
+        (9e6, 1.09e8),
+    ] {
+        for s in [100.0, 500.0, 2_000.0] {
+            for minutes in [1.0, 7.0, 60.0, 360.0, 2_880.0] {
+                let spread = 60.0 * minutes * s;
+                let (p, q) = (250.0 * near / spread, 250.0 * image / spread);
+                // Of less than e^(−600) nothing is left.
+                if p < 600.0 {
+                    close(integral_between(p, q), slow_quadrature(p, q), 1e-12);
+                }
+            }
+        }
+    }
+}
+
+#[test]
 fn tiny_and_near_limits() {
     for (p, q) in [
         (1e-12, 2e-12),

@@ -12,8 +12,8 @@ use Rattle.cycle.proofs.factor_of.Tie as tie
 first-above-requires : tie.Need-first-above-requires
 first-above-requires c κs = search needs
 
-cast-t5 : tie.Need-cast-t5
-cast-t5 c = search needs
+cast-t6 : tie.Need-cast-t6
+cast-t6 c = search needs
 
 returns : tie.Need-returns
 returns c = hour-refused _ _ (c .before .first-above .ensures) (c .if1 .taken)
@@ -24,8 +24,8 @@ highest-load-requires c κs = search needs
 returns-2 : tie.Need-returns-2
 returns-2 c =
     let k = c .before .before in
-    let start = k .before .before in
-    let day = good-length (eInt w16) dayHours (start .args .hours) _ (start .good .1 .0) in
+    let start = k .before .before .before in
+    let day = good-length (eInt w16) dayHours (start .args .hours) _ (start .good .1 .1 .0) in
     nothing-refused _ _ (k .before .first-above .ensures) (k .if1 .left) day (sym (c .before .highest-load .ensures) ∙ c .if2 .taken)
 
 factor-of-day-requires : tie.Need-factor-of-day-requires
@@ -41,7 +41,7 @@ factor-of-spec =
     tie.close
     (tie.spec
     first-above-requires
-    cast-t5
+    cast-t6
     returns
     highest-load-requires
     returns-2

@@ -18,7 +18,7 @@ step-to-requires : tie.Need-step-to-requires
 step-to-requires c κs =
     let k = c .before in
     let r = k .before .before in
-    (r .before .before .pre, step-to _ _ (sym (r .check-record .ensures .answer) ∙ k .checked2 .given .1))
+    (r .before .before .before .pre, step-to _ _ (sym (r .check-record .ensures .answer) ∙ k .checked2 .given .1))
 
 returns : tie.Need-returns
 returns c =

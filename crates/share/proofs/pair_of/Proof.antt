@@ -1,9 +1,18 @@
--- `share::pair_of` hands the cable in use on to the fixed point.
+-- `share::pair_of` hands the sums and the cable's other fields on to the fixed point. Assumes nothing.
+use mathlib.Core.Path.{_≡_, refl, sym, _∙_}
+use native.Mathlib.Omega.{arith}
 use borrow.Author.Needs.{needs}
-use mathlib.Core.Path.{sym, _∙_}
+use Rattle.attained.proofs.Group.{attained-is}
 use Rattle.share.specs.Pair.{share-pair-is}
+use Rattle.share.proofs.AtNeighbour.{share-of-sums-asked}
 use Rattle.share.proofs.pair_of.Statement.{statement}
 use Rattle.share.proofs.pair_of.Tie as tie
+
+mul-seconds : tie.Need-mul-seconds
+mul-seconds c = search needs
+
+sums-in-requires : tie.Need-sums-in-requires
+sums-in-requires c κs = record { minutes = c .before .before .args .minutes; timed = c .before .before .pre; seconds-are = refl }
 
 cast-attained-share : tie.Need-cast-attained-share
 cast-attained-share c = search needs
@@ -17,35 +26,26 @@ cast-attained-share-3 c = search needs
 cast-attained-share-4 : tie.Need-cast-attained-share-4
 cast-attained-share-4 c = search needs
 
-cast-attained-share-5 : tie.Need-cast-attained-share-5
-cast-attained-share-5 c = search needs
-
-cast-attained-share-6 : tie.Need-cast-attained-share-6
-cast-attained-share-6 c = search needs
-
-cast-attained-share-7 : tie.Need-cast-attained-share-7
-cast-attained-share-7 c = search needs
-
-mul-attained-share : tie.Need-mul-attained-share
-mul-attained-share c = search needs
-
 attained-share-requires : tie.Need-attained-share-requires
-attained-share-requires c κs = search needs
+attained-share-requires c κs =
+    let s = c .before .before .before .before in
+    let a = s .before .before .before in
+    share-of-sums-asked (record { minutes = a .args .minutes; timed = a .pre; seconds-are = refl }) (s .sums-in .ensures)
 
 returns : tie.Need-returns
-returns c = c .attained-share .ensures ∙ sym (share-pair-is _ _)
+returns c =
+    let s = c .before .before .before .before .before in
+    c .attained-share .ensures ∙ rw (s .sums-in .ensures) (attained-is _ _ _ _ _ _ _ _ _) ∙ sym (share-pair-is _ _)
 
 pub pair-of-spec : {M : Type 1} → statement M
 pair-of-spec =
     tie.close
     (tie.spec
+    mul-seconds
+    sums-in-requires
     cast-attained-share
     cast-attained-share-2
     cast-attained-share-3
     cast-attained-share-4
-    cast-attained-share-5
-    cast-attained-share-6
-    cast-attained-share-7
-    mul-attained-share
     attained-share-requires
     returns)

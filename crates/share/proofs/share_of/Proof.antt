@@ -13,7 +13,9 @@ returns : tie.Need-returns
 returns c = minutes-refused _ _ (sym (c .before .outside .ensures) ∙ c .if1 .taken)
 
 pair-of-requires : tie.Need-pair-of-requires
-pair-of-requires c κs = minutes-accepted _ _ (sym (c .before .outside .ensures) ∙ c .if1 .left) (c .before .before .pre)
+pair-of-requires c κs =
+    let laid = c .before .before .before .pre in
+    record { laid = laid; accepted = minutes-accepted _ _ (sym (c .before .outside .ensures) ∙ c .if1 .left) (laid .acceptable) }
 
 returns-2 : tie.Need-returns-2
 returns-2 c =

@@ -27,7 +27,7 @@ module _ (k : tie.Else1) where
   passed = sym (k .before .wrong-length .ensures) ∙ k .if1 .left
 
   whole : 36 ≤ length (k .before .before .before .args .sheet .now)
-  whole = omega (arith, right-length _ passed .is)
+  whole = let l = right-length _ passed in omega (arith, l .is, l .header-least)
 
 cable-of-requires : tie.Need-cable-of-requires
 cable-of-requires c κs = whole c
@@ -69,15 +69,18 @@ returns-3 c =
 first-link-requires : tie.Need-first-link-requires
 first-link-requires c κs = whole (c .before .before .before .before .before .before .before)
 
+second-link-requires : tie.Need-second-link-requires
+second-link-requires c κs = omega (arith, right-length _ (passed (c .before .before .before .before .before .before .before .before)) .is)
+
 returns-4 : tie.Need-returns-4
 returns-4 c =
-    let j = c .before .before in
+    let j = c .before .before .before in
     let k = j .before in
     record {
       answer =
-          ap Accepted (cc (j .starting-current .ensures, c .first-link .ensures))
+          ap Accepted (cc (j .starting-current .ensures, c .before .first-link .ensures, c .second-link .ensures))
           ∙ header-accepted _ (passed (k .before .before .before .before .before)) (accepted k)
-          (rw (j .starting-current .ensures) at (c .before .if2 .left));
+          (rw (j .starting-current .ensures) at (c .before .before .if2 .left));
     }
 
 pub check-header-spec : {M : Type 1} → statement M
@@ -94,4 +97,5 @@ check-header-spec =
     starting-current-requires
     returns-3
     first-link-requires
+    second-link-requires
     returns-4)

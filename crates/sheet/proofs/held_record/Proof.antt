@@ -4,6 +4,9 @@ use borrow.Author.Needs.{needs}
 use Rattle.sheet.proofs.held_record.Statement.{statement}
 use Rattle.sheet.proofs.held_record.Tie as tie
 
+header-length-requires : tie.Need-header-length-requires
+header-length-requires c κs = search needs
+
 sub-at : tie.Need-sub-at
 sub-at c = search needs
 
@@ -31,8 +34,8 @@ number-at-requires-3 c κs = search needs
 cast-next : tie.Need-cast-next
 cast-next c = search needs
 
-cast-t10 : tie.Need-cast-t10
-cast-t10 c = search needs
+cast-t11 : tie.Need-cast-t11
+cast-t11 c = search needs
 
 returns : tie.Need-returns
 unfolding recordOf
@@ -42,6 +45,7 @@ pub held-record-spec : {M : Type 1} → statement M
 held-record-spec =
     tie.close
     (tie.spec
+    header-length-requires
     sub-at
     mul-at
     add-at
@@ -51,5 +55,5 @@ held-record-spec =
     add-number-at-2
     number-at-requires-3
     cast-next
-    cast-t10
+    cast-t11
     returns)

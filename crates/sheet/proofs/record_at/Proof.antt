@@ -34,10 +34,10 @@ within : (k : tie.Else2) → k .before .before .before .before .before .args .nu
 within k = omega (arith, k .before .record-count .ensures, k .if2 .left)
 
 starting-current-requires : tie.Need-starting-current-requires
-starting-current-requires c κs = omega (arith, right-length _ (passed (c .before .before .before)) .is)
+starting-current-requires c κs = let l = right-length _ (passed (c .before .before .before)) in omega (arith, l .is, l .header-least)
 
 first-link-requires : tie.Need-first-link-requires
-first-link-requires c κs = omega (arith, right-length _ (passed (c .before .before .before .before)) .is)
+first-link-requires c κs = let l = right-length _ (passed (c .before .before .before .before)) in omega (arith, l .is, l .header-least)
 
 before-first-requires : tie.Need-before-first-requires
 before-first-requires c κs = search needs

@@ -3,7 +3,7 @@
 use super::cells::{number, Range, Told};
 use super::explain::place_is;
 use super::tables::{Row, Section};
-use super::trial::{answer, four, result_or, try_one};
+use super::trial::{answer, every, result_or, try_one};
 use super::{cells, each_row, find, Desk, Findings, Found, Tried};
 use crate::distance::{require, Held};
 use kechmowad::Cable;
@@ -77,8 +77,8 @@ pub fn check(found: &Found, desk: &Desk) -> Findings {
         check_row(index, row, typical.clone()?, desk)
     });
     let accepted = typical.map(|fields| {
-        let inputs = four(Cable::from(fields));
-        inputs.map(|input| try_one(&input, Ok(()))).to_vec()
+        let inputs = every(Cable::from(fields));
+        inputs.iter().map(|input| try_one(input, Ok(()))).collect()
     });
     findings.note("typical cable", accepted);
     findings.note("typical cable", worked_out(found));
@@ -106,8 +106,9 @@ fn check_row(index: usize, row: &Row, typical: [u32; 8], desk: &Desk) -> Tried {
     let words = format!("typed, symbol and unit {:?}", FIELDS[index]);
     let mut held = vec![require([typed, symbol, unit] == FIELDS[index], &words)];
     for (value, inside) in range.edges(u32::MAX) {
-        let inputs = four(with(typical, index, value));
-        held.extend(inputs.map(|input| try_one(&input, result_or(inside, told))));
+        let inputs = every(with(typical, index, value));
+        let tried = |input| try_one(input, result_or(inside, told));
+        held.extend(inputs.iter().map(tried));
     }
     if let Some((value, meant)) = range.instead {
         held.extend(stands_for(typical, index, value, meant));
@@ -119,7 +120,7 @@ fn check_row(index: usize, row: &Row, typical: [u32; 8], desk: &Desk) -> Tried {
 
 /// A value answers as the one that it stands for.
 fn stands_for(typical: [u32; 8], index: usize, value: u32, meant: u32) -> Vec<Held> {
-    let [one, other] = [value, meant].map(|value| four(with(typical, index, value)));
+    let [one, other] = [value, meant].map(|value| every(with(typical, index, value)));
     let pairs = one.iter().zip(&other);
     pairs
         .map(|(one, other)| {

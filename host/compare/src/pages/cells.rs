@@ -83,6 +83,41 @@ impl Range {
     }
 }
 
+/// `-A to A`: as far below 0 as above it.
+#[derive(Debug, Clone, Copy, PartialEq, Eq)]
+pub struct EitherWay {
+    pub most: i16,
+}
+
+impl EitherWay {
+    /// The range that a cell writes.
+    pub fn of(cell: &str) -> Result<EitherWay, String> {
+        let told = || format!("no range either way: {cell:?}");
+        let ends = cell
+            .strip_prefix('-')
+            .and_then(|ends| ends.split_once(" to "));
+        let (below, above) = ends.ok_or_else(told)?;
+        let most = number(above)?;
+        match i16::try_from(most) {
+            Ok(most) if below == above => Ok(EitherWay { most }),
+            _ => Err(told()),
+        }
+    }
+
+    /// Values at its ends and beyond them, each with whether it is accepted.
+    pub fn edges(&self) -> [(i16, bool); 6] {
+        let most = self.most;
+        [
+            (most, true),
+            (-most, true),
+            (most.saturating_add(1), false),
+            (-most.saturating_add(1), false),
+            (i16::MAX, false),
+            (i16::MIN, false),
+        ]
+    }
+}
+
 /// Where bytes stand: `A to B`, or `A and B` for two.
 #[derive(Debug, Clone, Copy, PartialEq, Eq)]
 pub struct Span {
@@ -107,10 +142,10 @@ impl Span {
     }
 }
 
-/// The kind of place that document 01 names for each refusal, from 1.
-const KINDS: [&str; 13] = [
+/// The kind of place that documents 01 and 02 name for each refusal, from 1.
+const KINDS: [&str; 16] = [
     "none", "field", "none", "none", "record", "record", "record", "record", "none", "hour",
-    "none", "input", "none",
+    "none", "input", "none", "record", "record", "record",
 ];
 
 /// A place of a kind.
@@ -144,7 +179,7 @@ impl<'a> Told<'a> {
         let (number, place) = words.and_then(|w| w.split_once(' ')).ok_or_else(told)?;
         let number = number.parse().map_err(|_| told())?;
         match number {
-            1..=13 => Ok(Told { number, place }),
+            1..=16 => Ok(Told { number, place }),
             _ => Err(told()),
         }
     }
@@ -212,6 +247,24 @@ mod tests {
     }
 
     #[test]
+    fn a_range_either_way_is_tried_on_both_sides() {
+        let range = EitherWay::of("-3,000 to 3,000").unwrap();
+        let beyond = [3_001, -3_001, 32_767, -32_768].map(|value| (value, false));
+        let ends = [(3_000, true), (-3_000, true)];
+        assert_eq!(range.edges()[..2], ends);
+        assert_eq!(range.edges()[2..], beyond);
+        for cell in [
+            "0 to 3,000",
+            "-3,000 to 2,999",
+            "-3000 to 3000",
+            "-3,000",
+            "-1 to",
+        ] {
+            assert!(EitherWay::of(cell).is_err(), "{cell:?}");
+        }
+    }
+
+    #[test]
     fn bytes_and_refusals_are_read() {
         let span = |first, length| Ok(Span { first, length });
         assert_eq!(Span::of("0 to 31"), span(0, 32));
@@ -226,7 +279,7 @@ mod tests {
         for cell in [
             "refused 9 0",
             "`refused 9 1`",
-            "`refused 14 0`",
+            "`refused 17 0`",
             "`refused 10 DAY`",
         ] {
             assert!(read(cell).is_err(), "{cell:?}");

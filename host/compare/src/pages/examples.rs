@@ -10,7 +10,7 @@ use std::path::Path;
 /// The folder of the sheets.
 const FOLDER: &str = "examples";
 
-/// A history of load, as a row tells it and as a sheet holds it.
+/// A history of load and the neighbours, as a row tells them and as a sheet holds them.
 #[derive(Debug, PartialEq, Eq)]
 struct Load {
     before: u32,
@@ -18,6 +18,8 @@ struct Load {
     steps: Vec<(u32, u32)>,
     /// Whether the last step's record leads to itself.
     again: bool,
+    /// Offset and depth of each in mm.
+    neighbours: Vec<(i32, u32)>,
 }
 
 /// Checks that each sheet has a row, and what the row says.
@@ -53,11 +55,11 @@ fn all_named(rows: &[Row], root: &Path) -> Result<Held, String> {
 }
 
 fn check_row(row: &Row, prose: &str, desk: &Desk) -> Tried {
-    let [name, before, steps, prints] = cells(row)?;
+    let [name, before, steps, neighbours, prints] = cells(row)?;
     let path = desk.root.join(FOLDER).join(name.trim_matches('`'));
     let told = |error| format!("{}: {error}", path.display());
     let sheet = std::fs::read(&path).map_err(told)?;
-    let said = read_row(before, steps)?;
+    let said = read_row(before, steps, neighbours)?;
     let holds = read_sheet(&sheet)?;
     let line = desk.programs.rise(&sheet)?;
     let words = format!("{holds:?} as the sheet holds it, not {said:?}");
@@ -71,27 +73,32 @@ fn check_row(row: &Row, prose: &str, desk: &Desk) -> Tried {
 }
 
 /// `300 A`; `none`, or steps as `400 A from 1,440 minutes ago, 200 from 720`, to which
-/// `and the same record again` may be added.
-fn read_row(before: &str, steps: &str) -> Result<Load, String> {
+/// `and the same record again` may be added; `none`, or neighbours as `200 mm aside at
+/// 1,000 mm, -200 at 1,000`.
+fn read_row(before: &str, steps: &str, neighbours: &str) -> Result<Load, String> {
     let amperes = before.strip_suffix(" A");
     let before = number(amperes.ok_or_else(|| format!("no amperes: {before:?}"))?)?;
     let (steps, again) = match steps.strip_suffix(", and the same record again") {
         Some(steps) => (steps, true),
         None => (steps, false),
     };
-    let steps = match steps {
-        "none" => Vec::new(),
-        _ => steps
-            .split(", ")
-            .enumerate()
-            .map(read_step)
-            .collect::<Result<_, _>>()?,
-    };
     Ok(Load {
         before,
-        steps,
+        steps: read_list(steps, read_step)?,
         again,
+        neighbours: read_list(neighbours, read_neighbour)?,
     })
+}
+
+/// `none`, or things with a comma and a blank between.
+fn read_list<T>(
+    cell: &str,
+    read: impl Fn((usize, &str)) -> Result<T, String>,
+) -> Result<Vec<T>, String> {
+    match cell {
+        "none" => Ok(Vec::new()),
+        _ => cell.split(", ").enumerate().map(read).collect(),
+    }
 }
 
 /// A step of a row, of which the first has its units.
@@ -106,6 +113,24 @@ fn read_step((index, step): (usize, &str)) -> Result<(u32, u32), String> {
     Ok((number(amperes)?, number(minutes)?))
 }
 
+/// A neighbour of a row, of which the first has its units.
+fn read_neighbour((index, neighbour): (usize, &str)) -> Result<(i32, u32), String> {
+    let told = || format!("no neighbour: {neighbour:?}");
+    let parts = match index {
+        0 => neighbour
+            .strip_suffix(" mm")
+            .and_then(|rest| rest.split_once(" mm aside at ")),
+        _ => neighbour.split_once(" at "),
+    };
+    let (aside, depth) = parts.ok_or_else(told)?;
+    let (sign, size) = match aside.strip_prefix('-') {
+        Some(size) => (-1, size),
+        None => (1, aside),
+    };
+    let size = i32::try_from(number(size)?).map_err(|_| told())?;
+    Ok((sign * size, number(depth)?))
+}
+
 /// The two bytes at a place of a sheet, as a number.
 fn two(sheet: &[u8], at: usize) -> Result<u32, String> {
     match sheet.get(at..at + 2) {
@@ -114,14 +139,40 @@ fn two(sheet: &[u8], at: usize) -> Result<u32, String> {
     }
 }
 
-/// What a sheet holds along its chain, up to a record that comes a second time.
+/// What a sheet holds along its chains.
 fn read_sheet(sheet: &[u8]) -> Result<Load, String> {
-    let mut links = vec![two(sheet, 34)?];
-    let mut steps = Vec::new();
+    let long = sheet.len() % 6 == 2;
+    let (steps, again) = read_chain(sheet, two(sheet, 34)?)?;
+    let second_link = if long { two(sheet, 36)? } else { 0 };
+    let (neighbours, loops) = read_chain(sheet, second_link)?;
+    if loops {
+        return Err("its neighbours lead back".to_string());
+    }
+    let signed = |offset: u32| i32::from(offset as u16 as i16);
+    let neighbours = neighbours
+        .iter()
+        .map(|&(offset, depth)| (signed(offset), depth));
+    Ok(Load {
+        before: two(sheet, 32)?,
+        steps: steps
+            .iter()
+            .map(|&(minutes, amperes)| (amperes, minutes))
+            .collect(),
+        again,
+        neighbours: neighbours.collect(),
+    })
+}
+
+/// The first two numbers of each record that a link leads to, up to a record that comes a
+/// second time, and whether there is one.
+fn read_chain(sheet: &[u8], first: u32) -> Result<(Vec<(u32, u32)>, bool), String> {
+    let head = if sheet.len() % 6 == 2 { 38 } else { 36 };
+    let mut links = vec![first];
+    let mut records = Vec::new();
     let mut again = false;
     while let Some(link) = links.last().copied().filter(|link| *link != 0 && !again) {
-        let record = 36 + 6 * (link as usize - 1);
-        steps.push((two(sheet, record + 2)?, two(sheet, record)?));
+        let record = head + 6 * (link as usize - 1);
+        records.push((two(sheet, record)?, two(sheet, record + 2)?));
         let next = two(sheet, record + 4)?;
         again = next == link;
         if !again && links.contains(&next) {
@@ -129,11 +180,7 @@ fn read_sheet(sheet: &[u8]) -> Result<Load, String> {
         }
         links.push(next);
     }
-    Ok(Load {
-        before: two(sheet, 32)?,
-        steps,
-        again,
-    })
+    Ok((records, again))
 }
 
 /// The cable is A, and the sentence above the table tells it.

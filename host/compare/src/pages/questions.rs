@@ -3,10 +3,11 @@
 use super::cells::{Range, Told};
 use super::explain::place_is;
 use super::tables::Row;
-use super::trial::{cable_a, current, emergency, factor, share, try_one, Expected};
+use super::trial::{both, current, emergency, factor, share, try_one, Expected};
 use super::{cells, each_row, Desk, Findings, Found, Tried};
 use crate::distance::require;
 use crate::input::Input;
+use crate::trench::Trench;
 use kechmowad::Place;
 
 /// What is typed, and document 01's unit of each.
@@ -60,31 +61,40 @@ fn check_range(typed: &str, range: Range, told: &Told) -> Tried {
     Ok(held)
 }
 
-/// Questions with a value, each with the hour that holds it.
+/// Questions with a value, each with the hour that holds it: of a cable alone, and of one
+/// with neighbours.
 fn inputs(typed: &str, value: u32) -> Result<Vec<(Input, u8)>, String> {
-    let cable = cable_a();
+    let inputs: Result<Vec<Vec<(Input, u8)>>, String> = both()
+        .iter()
+        .map(|trench| inputs_of(trench, typed, value))
+        .collect();
+    Ok(inputs?.concat())
+}
+
+fn inputs_of(trench: &Trench, typed: &str, value: u32) -> Result<Vec<(Input, u8)>, String> {
     Ok(match typed {
         "MINUTES" => vec![
-            (share(cable, value), 0),
-            (current(cable, 100, 100, value), 0),
+            (share(trench, value), 0),
+            (current(trench, 100, 100, value), 0),
         ],
-        "H" => vec![(emergency(value, LIMIT), 0)],
-        "R" => vec![(emergency(0, value), 0)],
+        "H" => vec![(emergency(trench, value, LIMIT), 0)],
+        "R" => vec![(emergency(trench, 0, value), 0)],
         _ => {
             let told = |_| format!("no hour can hold {value}");
             let value = u16::try_from(value).map_err(told)?;
-            (0..24).map(|hour| (day(hour, value), hour)).collect()
+            let hours = 0..24;
+            hours.map(|hour| (day(trench, hour, value), hour)).collect()
         }
     })
 }
 
 /// A day with a value in one hour, 4,000 A in the next one and 0 in the others.
-fn day(hour: u8, value: u16) -> Input {
+fn day(trench: &Trench, hour: u8, value: u16) -> Input {
     let mut hours = [0; 24];
     let hour = usize::from(hour);
     hours[(hour + 1) % 24] = 4_000;
     hours[hour] = value;
-    factor(cable_a(), hours)
+    factor(trench, hours)
 }
 
 /// What is said of a value of the range: a preload that no limit allows is refused as such.

@@ -4,24 +4,30 @@ use super::cable::{FAST, SLOW};
 use super::cells::{place, Range};
 use super::explain::{no_such_place, number_alone, place_begins, place_is};
 use super::tables::Row;
-use super::trial::{cable_a, current, emergency, factor, four, rise, share, try_one};
+use super::trial::{
+    about, both, cable_a, current, emergency, every_in_sheet, factor, share, try_one,
+};
 use super::{cells, each_row, Desk, Findings, Found, Tried};
 use crate::distance::{require, Held};
 use crate::input::Input;
 use crate::numbers::USUAL;
-use kechmowad::{sheet, Cable, Condition};
+use crate::trench::Trench;
+use kechmowad::{long_sheet, sheet, Cable, Condition};
 
-const FIRSTS: [&str; 13] = [
-    "1", "2", "3", "4", "5", "6", "7", "8", "9", "10", "11", "12", "13",
+const FIRSTS: [&str; 16] = [
+    "1", "2", "3", "4", "5", "6", "7", "8", "9", "10", "11", "12", "13", "14", "15", "16",
 ];
 
-/// The commands in the page's order, with document 01's refusals of each.
+/// What meets refusals, in the page's order, with those of documents 01 and 02 for each.
+/// Every question about a sheet meets those of the sheet.
 const ORDERS: [(&str, &[u8]); 4] = [
     ("share", &[2, 3, 9]),
     ("factor", &[2, 3, 10, 11]),
     ("current", &[2, 3, 9, 12, 13]),
-    ("rise", &[1, 2, 3, 4, 5, 6, 7, 8]),
+    (SHEET, &[1, 2, 3, 4, 5, 6, 7, 8, 14, 15, 16]),
 ];
+
+const SHEET: &str = "a sheet";
 
 /// Checks the refusals in their order.
 pub fn check(found: &Found, desk: &Desk) -> Findings {
@@ -46,7 +52,7 @@ fn check_row(number: u8, row: &Row, desk: &Desk) -> Tried {
     Ok(held)
 }
 
-/// The commands of a row are those of document 01's orders.
+/// What a row comes from is as in the orders of documents 01 and 02.
 fn commands(number: u8, from: &str) -> Held {
     let meets = ORDERS.iter().filter(|(_, met)| met.contains(&number));
     let names: Vec<&str> = meets.map(|(command, _)| *command).collect();
@@ -80,11 +86,12 @@ impl<'a> Places<'a> {
         })
     }
 
-    /// Each command of a row gets the refusal at the first and at the last place.
+    /// All that a row comes from gets the refusal at the first and at the last place.
     fn met(&self, number: u8, from: &str) -> Vec<Held> {
         let met = |command, at| {
             let expected = Err((number, place(self.kind, at)?));
-            try_one(&meets(command, number, at)?, expected)
+            let inputs = meets(command, number, at)?;
+            inputs.iter().try_for_each(|input| try_one(input, expected))
         };
         let commands = from.split(", ");
         commands
@@ -109,30 +116,43 @@ impl<'a> Places<'a> {
     }
 }
 
-/// A question to a command that meets a refusal at a place.
-fn meets(command: &str, number: u8, at: u8) -> Result<Input, String> {
+/// Questions to a command that meet a refusal at a place, of a cable alone or of a sheet.
+fn meets(command: &str, number: u8, at: u8) -> Result<Vec<Input>, String> {
     let none = || format!("no question to {command} meets {number} at {at}");
-    let place = usize::from(at);
-    Ok(match (command, number) {
-        (_, 2 | 3) => {
-            let cable = refused_cable(number, place).ok_or_else(none)?;
-            let asked = ["share", "factor", "current", "rise"];
-            let index = asked.iter().position(|name| *name == command);
-            four(cable)[index.ok_or_else(none)?].clone()
-        }
-        ("share", 9) => share(cable_a(), 2_881),
-        ("current", 9) => current(cable_a(), 100, 100, 2_881),
-        ("current", 12) if at == 1 => emergency(201, 100),
-        ("current", 12) if at == 2 => emergency(100, 0),
-        ("current", 13) => emergency(51, 25),
+    if command == SHEET {
+        let sheet = refused_sheet(number, at).ok_or_else(none)?;
+        return Ok(every_in_sheet(&sheet));
+    }
+    if matches!(number, 2 | 3) {
+        let cable = refused_cable(number, usize::from(at)).ok_or_else(none)?;
+        let index = ["share", "factor", "current"]
+            .iter()
+            .position(|name| *name == command);
+        let inputs = about(&Trench::Alone(cable));
+        return Ok(vec![inputs[index.ok_or_else(none)?].clone()]);
+    }
+    let inputs = both().map(|trench| meets_of(&trench, command, number, at));
+    inputs
+        .into_iter()
+        .map(|input| input.ok_or_else(none))
+        .collect()
+}
+
+/// A question about an accepted trench that meets a refusal at a place.
+fn meets_of(trench: &Trench, command: &str, number: u8, at: u8) -> Option<Input> {
+    Some(match (command, number) {
+        ("share", 9) => share(trench, 2_881),
+        ("current", 9) => current(trench, 100, 100, 2_881),
+        ("current", 12) if at == 1 => emergency(trench, 201, 100),
+        ("current", 12) if at == 2 => emergency(trench, 100, 0),
+        ("current", 13) => emergency(trench, 51, 25),
         ("factor", 10) => {
             let mut hours = [200; 24];
-            *hours.get_mut(place).ok_or_else(none)? = 4_001;
-            factor(cable_a(), hours)
+            *hours.get_mut(usize::from(at))? = 4_001;
+            factor(trench, hours)
         }
-        ("factor", 11) => factor(cable_a(), [0; 24]),
-        ("rise", _) => rise(refused_sheet(number, at).ok_or_else(none)?),
-        _ => return Err(none()),
+        ("factor", 11) => factor(trench, [0; 24]),
+        _ => return None,
     })
 }
 
@@ -147,21 +167,40 @@ fn refused_cable(number: u8, place: usize) -> Option<Cable> {
     Some(Cable::from(fields))
 }
 
-/// A sheet of 48 records, or none where the header alone is at fault, that is refused at a
-/// record. The first link leads to that record.
+/// A sheet that is refused, at a record where the place is one.
 fn refused_sheet(number: u8, at: u8) -> Option<Vec<u8>> {
     let cable = cable_a();
+    match number {
+        1 => Some(vec![0; 35]),
+        2 | 3 => {
+            let cable = refused_cable(number, usize::from(at))?;
+            Some(sheet(&cable, 300, 0, &[]))
+        }
+        4 => Some(sheet(&cable, 4_001, 0, &[])),
+        5 if at == 0 => Some(sheet(&cable, 300, 1, &[])),
+        14 if at == 0 => Some(long_sheet(&cable, 300, 0, 1, &[])),
+        _ => refused_record(number, at),
+    }
+}
+
+/// A sheet of 48 records that is refused at one of them, to which a link of the header
+/// leads: the first one for a step, the second for a neighbour.
+fn refused_record(number: u8, at: u8) -> Option<Vec<u8>> {
+    let own = u16::from(at);
     let record = match number {
-        1 => return Some(vec![0; 35]),
-        4 => return Some(sheet(&cable, 4_001, 0, &[])),
-        5 if at == 0 => return Some(sheet(&cable, 300, 1, &[])),
         5 => [30, 300, 49],
         6 => [0, 300, 0],
         7 => [30, 4_001, 0],
-        8 => [30, 300, u16::from(at)],
+        8 => [30, 300, own],
+        14 => [200, 1_000, own],
+        15 => [3_001, 1_000, 0],
+        16 => [0, 1_000, 0],
         _ => return None,
     };
     let mut records = [[30, 300, 0]; 48];
     *records.get_mut(usize::from(at).checked_sub(1)?)? = record;
-    Some(sheet(&cable, 300, u16::from(at), &records))
+    Some(match number {
+        ..=8 => sheet(&cable_a(), 300, own, &records),
+        _ => long_sheet(&cable_a(), 300, 0, own, &records),
+    })
 }

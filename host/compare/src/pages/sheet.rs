@@ -1,56 +1,116 @@
-//! 'The bytes of a sheet': lengths, and each range at the bytes that the page names.
+//! 'The bytes of a sheet': lengths, and each range at the bytes that the page names, in
+//! every question about a sheet.
 
 use super::cable::{fields, rates_apart};
 use super::cells::{between, number, Range, Span, Told};
 use super::explain::place_is;
+use super::neighbours;
 use super::tables::{Row, Section};
-use super::trial::{answer, cable_a, result_or, rise, try_one};
+use super::trial::{answer, cable_a, every_in_sheet, result_or, rise, try_one, Expected};
 use super::{cells, each_row, Desk, Findings, Found, Tried};
 use crate::distance::{require, Held};
 use kechmowad::{Cable, Place};
 
 /// The parts of a sheet, and how the cell 'what' of each begins.
-const FIRSTS: [&str; 8] = [
-    "sheet", "header", "header", "header", "record", "record", "record", "chain",
+const FIRSTS: [&str; 14] = [
+    "sheet",
+    "sheet",
+    "header",
+    "header",
+    "header",
+    "header",
+    "step",
+    "step",
+    "step",
+    "chain",
+    "neighbour",
+    "neighbour",
+    "neighbour",
+    "trench",
 ];
-const WHAT: [&str; 8] = [
-    "length: ",
+const WHAT: [&str; 14] = [
+    "length without a second link: ",
+    "length with a second link: ",
     "the eight fields, four bytes each",
     "starting current in A",
     "first link: ",
+    "second link: ",
     "minutes ",
     "amperes ",
     "next link: ",
     "minutes of each record, below those of the record before",
+    "offset to the side in mm, two's complement",
+    "depth of its axis in mm",
+    "next link: ",
+    "distance from the cable's axis, not below the cable's diameter",
 ];
 
+/// Indexes of the rows of both lengths, and of a neighbour's offset and depth.
+const LENGTHS: [usize; 2] = [0, 1];
+const POSITION: [usize; 2] = [10, 11];
+
 /// Sentences that the trials stand for.
-const SAID: [&str; 2] = [
-    "All its numbers are unsigned, the first byte the highest.",
+const SAID: [&str; 4] = [
+    "All its numbers but a neighbour's offset are unsigned, the first byte the highest.",
     "A record that no link leads to is not looked at.",
+    "One record may be a step and a neighbour.",
+    "Without a second link there are no neighbours.",
 ];
 
 /// Most records of a sheet, from document 01.
-const MOST: u16 = 48;
+pub const MOST: u16 = 48;
+
+/// Which header a sheet has.
+#[derive(Debug, Clone, Copy, PartialEq, Eq)]
+pub enum Header {
+    Short,
+    /// With a second link.
+    Long,
+}
+
+pub const HEADERS: [Header; 2] = [Header::Short, Header::Long];
+
+impl Header {
+    /// A sheet of cable A and 300 A with a first link; a second one is 0.
+    pub fn sheet(self, first: u16, records: &[[u16; 3]]) -> Vec<u8> {
+        match self {
+            Header::Short => kechmowad::sheet(&cable_a(), 300, first, records),
+            Header::Long => kechmowad::long_sheet(&cable_a(), 300, first, 0, records),
+        }
+    }
+}
 
 /// Where records stand, as the page says.
 #[derive(Debug, Clone, Copy)]
-struct Layout {
+pub struct Layout {
     first: usize,
     size: usize,
 }
 
 impl Layout {
-    fn of(prose: &str) -> Result<Layout, String> {
+    pub fn of(prose: &str, header: Header) -> Result<Layout, String> {
         let byte = |before, after| between(prose, before, after).and_then(number);
-        let first = byte("Record 1 begins at byte ", ", record 2")? as usize;
-        let second = byte(", record 2 at byte ", ".")? as usize;
+        let (first, second) = match header {
+            Header::Short => (
+                byte("Record 1 begins at byte ", ", record 2")?,
+                byte(", record 2 at byte ", ";")?,
+            ),
+            Header::Long => {
+                let bytes = between(prose, "with a second link they begin at bytes ", ".")?;
+                let two = bytes.split_once(" and ");
+                let (one, two) = two.ok_or_else(|| format!("no two bytes: {bytes:?}"))?;
+                (number(one)?, number(two)?)
+            }
+        };
         let size = second.checked_sub(first).ok_or("record 2 is before 1")?;
-        Ok(Layout { first, size })
+        Ok(Layout {
+            first: first as usize,
+            size: size as usize,
+        })
     }
 
     /// Where a byte of a record stands.
-    fn byte(&self, record: u16, at: usize) -> usize {
+    pub fn byte(&self, record: u16, at: usize) -> usize {
         self.first + self.size * (usize::from(record) - 1) + at
     }
 }
@@ -70,29 +130,46 @@ fn check_row(index: usize, row: &Row, found: &Found, desk: &Desk) -> Tried {
     let begins = WHAT[index];
     let words = format!("the words \"{begins}..\", not {what:?}");
     let mut held = vec![require(what.starts_with(begins), &words)];
+    let empty = bytes.is_empty() && range.is_empty();
+    let nothing = require(empty, "no bytes and no range");
     held.extend(match index {
-        0 => lengths(bytes, what, range, told)?,
-        1 => header_fields(bytes, range, told, found.sections)?,
-        2 | 3 => header_numbers(Span::of(bytes)?, range, told)?,
-        7 => chain(bytes, range, told)?,
-        _ => record_numbers(Span::of(bytes)?, range, told, Layout::of(found.prose)?)?,
+        0 | 1 => lengths(bytes, found.rows, told)?,
+        2 => header_fields(bytes, range, told, found.sections)?,
+        3 | 4 => header_numbers(Span::of(bytes)?, range, told)?,
+        5 => neighbours::second_link(Span::of(bytes)?, range, told)?,
+        9 => [vec![nothing], chain(told)?].concat(),
+        10 => neighbours::offsets(Span::of(bytes)?, range, told, found.prose)?,
+        11 => neighbours::depths(Span::of(bytes)?, range, told, found.prose)?,
+        12 => neighbours::links(Span::of(bytes)?, range, told, found.prose)?,
+        13 => [vec![nothing], neighbours::distances(told)?].concat(),
+        _ => step_numbers(Span::of(bytes)?, range, told, found.prose)?,
     });
-    for (place, second) in places(index, what, range) {
+    for (place, second) in places(index, what, range, found.rows) {
         held.push(place_is(desk.programs, told.number, place, &second));
     }
     Ok(held)
 }
 
-/// A sheet of cable A with so many records. The chain is one record, or empty for 0; it is
-/// older than the others, and each could end the chain.
-fn plain(records: u16, only: u16) -> Vec<u8> {
+/// Tries every question about a sheet. One that is accepted is asked for its rise and a share
+/// alone: six more shares for a factor would take longer than all else.
+pub fn try_sheet(sheet: &[u8], expected: Expected) -> Held {
+    let mut inputs = every_in_sheet(sheet);
+    if expected.is_ok() {
+        inputs.truncate(2);
+    }
+    inputs.iter().try_for_each(|input| try_one(input, expected))
+}
+
+/// The records of a sheet in which one, or none for 0, is older than the others; each could
+/// end a chain.
+fn plain(header: Header, records: u16, only: u16) -> Vec<u8> {
     let record = |number| [if number == only { 1_000 } else { 500 }, 200, 0];
     let records: Vec<[u16; 3]> = (1..=records).map(record).collect();
-    kechmowad::sheet(&cable_a(), 300, only, &records)
+    header.sheet(only, &records)
 }
 
 /// Writes a number into bytes of a sheet, the first the highest.
-fn put(sheet: &mut [u8], first: usize, length: usize, value: u32) -> Result<(), String> {
+pub fn put(sheet: &mut [u8], first: usize, length: usize, value: u32) -> Result<(), String> {
     let places = sheet.get_mut(first..first + length);
     let places = places.ok_or_else(|| format!("a sheet has no byte {first}"))?;
     let bytes = value.to_be_bytes();
@@ -101,25 +178,49 @@ fn put(sheet: &mut [u8], first: usize, length: usize, value: u32) -> Result<(), 
     Ok(())
 }
 
-/// The length of every sheet up to 400 bytes.
-fn lengths(bytes: &str, what: &str, range: &str, told: Told) -> Tried {
-    let head = number(between(what, "length: ", ", and ")?)?;
-    let each = number(between(what, ", and ", " for each record")?)?;
-    let Range { first, last, .. } = Range::of(range)?;
+/// The lengths that one row accepts.
+struct Lengths {
+    head: u32,
+    each: u32,
+    first: u32,
+    last: u32,
+}
+
+impl Lengths {
+    fn of(index: usize, row: &Row) -> Result<Lengths, String> {
+        let [_, _, what, range, _] = cells(row)?;
+        let Range { first, last, .. } = Range::of(range)?;
+        Ok(Lengths {
+            head: number(between(what, WHAT[index], ", and ")?)?,
+            each: number(between(what, ", and ", " for each record")?)?,
+            first,
+            last,
+        })
+    }
+
+    fn accepts(&self, length: u32) -> bool {
+        let rest = length.checked_sub(self.head);
+        let whole = rest.and_then(|rest| rest.checked_rem(self.each)) == Some(0);
+        let end = length == self.first || length == self.last;
+        end || self.first <= length && length <= self.last && whole
+    }
+}
+
+/// The length of every sheet up to 400 bytes, by the rows of both headers.
+fn lengths(bytes: &str, rows: &[Row], told: Told) -> Tried {
+    let [short, long] = LENGTHS.map(|index| Lengths::of(index, &rows[index]));
+    let (short, long) = (short?, long?);
     let refused = told.refusal()?;
-    let accepted = |length: u32| {
-        let rest = length.checked_sub(head);
-        let whole = rest.and_then(|rest| rest.checked_rem(each)) == Some(0);
-        let end = length == first || length == last;
-        end || first <= length && length <= last && whole
-    };
     let held = (0..=400).map(|length| {
-        let mut sheet = plain(61, 0);
-        sheet.truncate(length as usize);
-        try_one(&rise(sheet), result_or(accepted(length), refused))
+        // Zero bytes are links that end a chain.
+        let mut sheet = Header::Short.sheet(0, &[]);
+        sheet.resize(length as usize, 0);
+        let accepted = short.accepts(length) || long.accepts(length);
+        try_sheet(&sheet, result_or(accepted, refused))
     });
     let all = require(bytes == "all", "the length is that of all bytes");
-    let least = require(head == first, "the least length is that of no record");
+    let least = short.head == short.first && long.head == long.first;
+    let least = require(least, "the least length is that of no record");
     Ok(held.chain([all, least]).collect())
 }
 
@@ -137,60 +238,87 @@ fn header_fields(bytes: &str, range: &str, told: Told, sections: &[Section]) -> 
         for (value, inside) in range.edges(u32::MAX) {
             let mut sheet = kechmowad::sheet(&cable, 300, 0, &[]);
             put(&mut sheet, span.first + 4 * index, 4, value)?;
-            held.push(try_one(&rise(sheet), result_or(inside, refused)));
+            held.push(try_sheet(&sheet, result_or(inside, refused)));
         }
     }
     Ok(held)
 }
 
 /// A range of two bytes, where n may stand for the number of records.
-fn range_with(range: &str, records: u16) -> Result<Range, String> {
+pub fn range_with(range: &str, records: u16) -> Result<Range, String> {
     match range.strip_suffix(" n") {
         Some(begins) => Range::of(&format!("{begins} {records}")),
         None => Range::of(range),
     }
 }
 
-/// A number of the header, in sheets of 0, 1 and 48 records.
+/// Sheets to try a value of the header in: both headers, with 0, 1 and 48 records.
+fn with_headers() -> Vec<(Header, u16)> {
+    let each = |header| [0, 1, MOST].map(|records| (header, records));
+    HEADERS.into_iter().flat_map(each).collect()
+}
+
+/// A number of the header.
 fn header_numbers(span: Span, range: &str, told: Told) -> Tried {
     let refused = told.refusal()?;
     let mut held = vec![require(span.length == 2, "two bytes")];
-    for records in [0, 1, MOST] {
+    for (header, records) in with_headers() {
         for (value, inside) in range_with(range, records)?.edges(u32::from(u16::MAX)) {
-            let mut sheet = plain(records, 0);
+            let mut sheet = plain(header, records, 0);
             put(&mut sheet, span.first, span.length, value)?;
-            held.push(try_one(&rise(sheet), result_or(inside, refused)));
+            held.push(try_sheet(&sheet, result_or(inside, refused)));
         }
     }
     Ok(held)
 }
 
-/// A number of a record, in the first and the last record of a sheet.
-fn record_numbers(span: Span, range: &str, told: Told, layout: Layout) -> Tried {
+/// Sheets to try a record in: how many records there are, and which is tried.
+pub const TRIED: [(u16, u16); 3] = [(1, 1), (MOST, 1), (MOST, MOST)];
+
+/// The same with both headers.
+fn with_both_headers() -> Vec<(Header, u16, u16)> {
+    let each = |header| TRIED.map(|(records, only)| (header, records, only));
+    HEADERS.into_iter().flat_map(each).collect()
+}
+
+/// A number of a step, in the first and the last record of a sheet.
+fn step_numbers(span: Span, range: &str, told: Told, prose: &str) -> Tried {
     let mut held = vec![require(span.length == 2, "two bytes")];
-    for (records, only) in [(1, 1), (MOST, 1), (MOST, MOST)] {
-        let refused = told.with("RECORD", only as u8)?;
-        for (value, inside) in range_with(range, records)?.edges(u32::from(u16::MAX)) {
-            let mut sheet = plain(records, only);
-            let at = layout.byte(only, span.first);
+    for (header, records, only) in with_both_headers() {
+        let at = Layout::of(prose, header)?.byte(only, span.first);
+        for (value, expected) in step_trials(range, records, only, told)? {
+            let mut sheet = plain(header, records, only);
             put(&mut sheet, at, span.length, value)?;
-            let own = range.ends_with(" n") && value == u32::from(only);
-            // A link to its own record may stand there, but leads back.
-            let expected = if inside && own {
-                Err((8, Place::Record(only as u8)))
-            } else {
-                result_or(inside, refused)
-            };
-            held.push(try_one(&rise(sheet), expected));
+            held.push(try_sheet(&sheet, expected));
         }
     }
     Ok(held)
+}
+
+/// Values of a step's range, each with what is expected: a link to its own record may stand
+/// there, but leads back.
+fn step_trials(
+    range: &str,
+    records: u16,
+    only: u16,
+    told: Told,
+) -> Result<Vec<(u32, Expected)>, String> {
+    let refused = told.with("RECORD", only as u8)?;
+    let edges = range_with(range, records)?.edges(u32::from(u16::MAX));
+    let own = |value: u32| range.ends_with(" n") && value == u32::from(only);
+    let expected = |value: u32, inside: bool| match inside && own(value) {
+        true => Err((8, Place::Record(only as u8))),
+        false => result_or(inside, refused),
+    };
+    let trials = edges.into_iter();
+    Ok(trials
+        .map(|(value, inside)| (value, expected(value, inside)))
+        .collect())
 }
 
 /// Two records of a chain, the second one minute younger, of equal age, and older.
-fn chain(bytes: &str, range: &str, told: Told) -> Tried {
-    let empty = bytes.is_empty() && range.is_empty();
-    let mut held = vec![require(empty, "no bytes and no range")];
+fn chain(told: Told) -> Tried {
+    let mut held = Vec::new();
     for (one, two) in [(1, 2), (2, 1), (1, MOST), (MOST, 1)] {
         let refused = told.with("RECORD", two as u8)?;
         let trials = [(29, Ok(())), (30, Err(refused)), (31, Err(refused))];
@@ -198,15 +326,15 @@ fn chain(bytes: &str, range: &str, told: Told) -> Tried {
             let mut records = vec![[500, 200, 0]; usize::from(MOST)];
             records[usize::from(one) - 1] = [30, 200, two];
             records[usize::from(two) - 1] = [minutes, 300, 0];
-            let sheet = kechmowad::sheet(&cable_a(), 300, one, &records);
-            held.push(try_one(&rise(sheet), expected));
+            let sheets = HEADERS.map(|header| header.sheet(one, &records));
+            held.extend(sheets.map(|sheet| try_sheet(&sheet, expected)));
         }
     }
     Ok(held)
 }
 
 /// The places of a row's refusal, each with the line that explains it.
-fn places(index: usize, what: &str, range: &str) -> Vec<(u8, String)> {
+fn places(index: usize, what: &str, range: &str, rows: &[Row]) -> Vec<(u8, String)> {
     let name = what.split(':').next().unwrap_or_default();
     let word = what.split(' ').next().unwrap_or_default();
     let rest = what.split_once(", ").unwrap_or_default().1;
@@ -215,10 +343,18 @@ fn places(index: usize, what: &str, range: &str) -> Vec<(u8, String)> {
         (1..=MOST as u8).map(line).collect()
     };
     match index {
-        3 => vec![(0, format!("record 0: the header's {name}"))],
-        4 | 5 => all(format!("{word}, {range}")),
-        6 => all(name.to_string()),
-        7 => all(format!("{word}, {rest}")),
+        4 | 5 => vec![(0, format!("record 0: the header's {name}"))],
+        6 | 7 => all(format!("{word}, {range}")),
+        8 | 12 => all(name.to_string()),
+        9 => all(format!("{word}, {rest}")),
+        10 | 11 => {
+            let [aside, deep] = POSITION.map(|row| rows[row][3]);
+            let aside = aside.rsplit(" to ").next().unwrap_or_default();
+            all(format!(
+                "offset, {aside} mm either way at most, and depth, {deep} mm"
+            ))
+        }
+        13 => all(what.to_string()),
         _ => Vec::new(),
     }
 }
@@ -230,19 +366,22 @@ fn sentences(prose: &str) -> Tried {
     let counts = between(prose, "There are n records, ", ", numbered from 1")?;
     let right = format!("0 to {MOST}");
     held.push(require(counts == right, &format!("{right} records")));
-    held.extend(off_the_chain(Layout::of(prose)?));
+    for header in HEADERS {
+        held.extend(off_the_chain(header, Layout::of(prose, header)?));
+    }
+    held.extend(neighbours::sentences());
     Ok(held)
 }
 
 /// Anything in the records that no link leads to changes no answer.
-fn off_the_chain(layout: Layout) -> Vec<Held> {
+fn off_the_chain(header: Header, layout: Layout) -> Vec<Held> {
     let tried = (0..=MOST).map(|only| {
-        let clean = plain(MOST, only);
+        let clean = plain(header, MOST, only);
         let mut wild = clean.clone();
-        for record in (1..=MOST).filter(|record| *record != only) {
-            for at in 0..layout.size {
-                put(&mut wild, layout.byte(record, at), 1, 255)?;
-            }
+        let others = (1..=MOST).filter(|record| *record != only);
+        let places = others.flat_map(|record| (0..layout.size).map(move |at| (record, at)));
+        for (record, at) in places {
+            put(&mut wild, layout.byte(record, at), 1, 255)?;
         }
         let said = [clean, wild].map(|sheet| answer(&rise(sheet)));
         let words = format!("one answer with any bytes off the chain, not {said:?}");

@@ -2,10 +2,11 @@
 
 use super::cells::{between, number, Told};
 use super::tables::Row;
-use super::trial::{cable_a, emergency, factor, four, result_or, try_one};
+use super::trial::{both, emergency, every, factor, result_or, try_one};
 use super::{cells, each_row, Desk, Findings, Found, Tried};
 use crate::input::Input;
 use crate::numbers::USUAL;
+use crate::trench::Trench;
 use kechmowad::{Cable, Place};
 
 const RATES: &str = "SLOW at most FAST";
@@ -31,48 +32,52 @@ fn check_row(row: &Row) -> Tried {
     Ok(inputs.iter().map(held).collect())
 }
 
-/// Equal rates, and a slow one that is 1 above, in each of the four questions.
+/// Equal rates, and a slow one that is 1 above, in every question.
 fn rates() -> Vec<(Input, bool)> {
     let cable = |fast, slow| {
         let [d, l, s, k, w, _, _, rated] = USUAL;
         Cable::from([d, l, s, k, w, fast, slow, rated])
     };
     let tried = [1, 1_000, 99_999].into_iter().flat_map(|fast| {
-        let equal = four(cable(fast, fast)).map(|input| (input, true));
-        let above = four(cable(fast, fast + 1)).map(|input| (input, false));
-        equal.into_iter().chain(above)
+        let equal = every(cable(fast, fast)).into_iter();
+        let above = every(cable(fast, fast + 1)).into_iter();
+        let equal = equal.map(|input| (input, true));
+        equal.chain(above.map(|input| (input, false)))
     });
     tried.collect()
 }
 
 /// A day without load, and days of 1 A in one hour alone.
 fn loads() -> Vec<(Input, bool)> {
-    let one = |hour| {
+    let day = |trench: &Trench, loaded: Option<usize>| {
         let mut hours = [0; 24];
-        hours[hour] = 1;
-        (factor(cable_a(), hours), true)
+        loaded.into_iter().for_each(|hour| hours[hour] = 1);
+        (factor(trench, hours), loaded.is_some())
     };
-    let none = (factor(cable_a(), [0; 24]), false);
-    (0..24).map(one).chain([none]).collect()
+    let days = || (0..24).map(Some).chain([None]);
+    let of = |trench: &Trench| days().map(|loaded| day(trench, loaded)).collect::<Vec<_>>();
+    both().iter().flat_map(of).collect()
 }
 
 /// Preloads whose square is 100 times the limit, and one percent more.
 fn preloads() -> Vec<(Input, bool)> {
-    let tried = [(10, 1), (100, 100), (140, 196)].into_iter();
-    tried
-        .flat_map(|(h, r)| [(emergency(h, r), true), (emergency(h + 1, r), false)])
-        .collect()
+    let of = |trench: &Trench| {
+        let tried = [(10, 1), (100, 100), (140, 196)];
+        let met = tried.map(|(h, r)| (emergency(trench, h, r), true));
+        let above = tried.map(|(h, r)| (emergency(trench, h + 1, r), false));
+        [met, above].concat()
+    };
+    both().iter().flat_map(of).collect()
 }
 
 /// The preload that the highest limit allows, and the next one, which no limit does.
 fn always_refused(prose: &str) -> Tried {
     let most = number(between(prose, "one above ", " is always refused")?)?;
-    let allowed = try_one(&emergency(most, 200), Ok(()));
+    let [alone, _] = both();
+    let allowed = try_one(&emergency(&alone, most, 200), Ok(()));
     let above = |r| {
-        try_one(
-            &emergency(most.saturating_add(1), r),
-            Err((13, Place::None)),
-        )
+        let input = emergency(&alone, most.saturating_add(1), r);
+        try_one(&input, Err((13, Place::None)))
     };
     Ok([allowed].into_iter().chain((1..=200).map(above)).collect())
 }

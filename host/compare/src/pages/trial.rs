@@ -4,7 +4,8 @@ use super::cells::Refused;
 use crate::distance::{require, Held};
 use crate::input::Input;
 use crate::numbers::USUAL;
-use kechmowad::{sheet, Bounds, Cable, Refusal};
+use crate::trench::Trench;
+use kechmowad::{long_sheet, sheet, Bounds, Cable, Refusal};
 
 /// What is expected: a result, or a refusal with its place.
 pub type Expected = Result<(), Refused>;
@@ -30,15 +31,15 @@ pub fn answer(input: &Input) -> Answer {
     let pair = |Bounds { low, high }| [low, high];
     let whole = |value| [i64::from(value), 0];
     match input {
-        Input::Share { cable, minutes } => kechmowad::share(cable, *minutes).map(pair),
+        Input::Share { trench, minutes } => trench.share(*minutes).map(pair),
         Input::Rise { sheet } => kechmowad::rise(sheet).map(pair),
-        Input::Factor { cable, hours } => kechmowad::factor(cable, hours).map(whole),
+        Input::Factor { trench, hours } => trench.factor(hours).map(whole),
         Input::Current {
-            cable,
+            trench,
             h,
             r,
             minutes,
-        } => kechmowad::current(cable, *h, *r, *minutes).map(whole),
+        } => trench.current(*h, *r, *minutes).map(whole),
     }
 }
 
@@ -49,12 +50,15 @@ pub fn try_one(input: &Input, expected: Expected) -> Held {
         Ok(_) => Ok(()),
         Err(refusal) => Err((refusal.number(), refusal.place)),
     };
+    // Words for what holds would take far longer than asking.
+    if outcome == expected {
+        return Ok(());
+    }
     let words = match expected {
         Ok(()) => "a result".to_string(),
         Err((number, place)) => format!("refusal {number} at {place}"),
     };
-    let words = format!("{words}, not {said:?}, for {input}");
-    require(outcome == expected, &words)
+    require(false, &format!("{words}, not {said:?}, for {input}"))
 }
 
 /// The paper's cable A.
@@ -62,39 +66,65 @@ pub fn cable_a() -> Cable {
     Cable::from(USUAL)
 }
 
-/// The four questions about a cable, otherwise usual ones.
-pub fn four(cable: Cable) -> [Input; 4] {
-    [
-        share(cable, MINUTES),
-        factor(cable, DAY),
-        current(cable, 100, 100, MINUTES),
-        rise(sheet(&cable, 300, 0, &[])),
+/// Every question about a cable, otherwise usual ones: of the cable alone, and of a sheet.
+pub fn every(cable: Cable) -> Vec<Input> {
+    let alone = about(&Trench::Alone(cable));
+    let in_sheet = every_in_sheet(&sheet(&cable, 300, 0, &[]));
+    alone.into_iter().chain(in_sheet).collect()
+}
+
+/// Every question about a sheet: its rise, and share, factor and current in it.
+pub fn every_in_sheet(sheet: &[u8]) -> Vec<Input> {
+    let mut inputs = vec![rise(sheet.to_vec())];
+    inputs.extend(about(&Trench::Sheet(sheet.to_vec())));
+    inputs
+}
+
+/// Share, factor and current of a trench.
+pub fn about(trench: &Trench) -> Vec<Input> {
+    vec![
+        share(trench, MINUTES),
+        factor(trench, DAY),
+        current(trench, 100, 100, MINUTES),
     ]
 }
 
+/// Cable A alone, and with neighbours 200 mm to either side.
+pub fn both() -> [Trench; 2] {
+    let neighbours = [[200, 1_000, 2], [-200_i16 as u16, 1_000, 0]];
+    let three = long_sheet(&cable_a(), 300, 0, 1, &neighbours);
+    [Trench::Alone(cable_a()), Trench::Sheet(three)]
+}
+
 /// The share after some minutes.
-pub fn share(cable: Cable, minutes: u32) -> Input {
-    Input::Share { cable, minutes }
+pub fn share(trench: &Trench, minutes: u32) -> Input {
+    Input::Share {
+        trench: trench.clone(),
+        minutes,
+    }
 }
 
 /// The factor of a day.
-pub fn factor(cable: Cable, hours: [u16; 24]) -> Input {
-    Input::Factor { cable, hours }
+pub fn factor(trench: &Trench, hours: [u16; 24]) -> Input {
+    Input::Factor {
+        trench: trench.clone(),
+        hours,
+    }
 }
 
 /// The current for a preload, a limit and some minutes.
-pub fn current(cable: Cable, h: u32, r: u32, minutes: u32) -> Input {
+pub fn current(trench: &Trench, h: u32, r: u32, minutes: u32) -> Input {
     Input::Current {
-        cable,
+        trench: trench.clone(),
         h,
         r,
         minutes,
     }
 }
 
-/// The current for a preload and a limit of cable A.
-pub fn emergency(h: u32, r: u32) -> Input {
-    current(cable_a(), h, r, MINUTES)
+/// The current for a preload and a limit.
+pub fn emergency(trench: &Trench, h: u32, r: u32) -> Input {
+    current(trench, h, r, MINUTES)
 }
 
 /// The rise of a sheet.

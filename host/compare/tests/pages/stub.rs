@@ -1,5 +1,5 @@
 //! Stands in for the built programs: what `rating explain` has to print, written out from
-//! document 01's tables.
+//! document 01's tables and document 02's note 2.
 
 use compare::pages::{Programs, Said};
 use compare::program::line_of;
@@ -10,8 +10,8 @@ pub type Fault = (&'static [u8], &'static str, &'static str);
 /// The programs, with a fault or none.
 pub struct Stub(pub Option<Fault>);
 
-const CONDITIONS: [&str; 13] = [
-    "length is not 36 + 6n, n 0 to 48",
+const CONDITIONS: [&str; 16] = [
+    "length is neither 36 + 6n nor 38 + 6n, n 0 to 48",
     "field outside its range, first such",
     "slow rate above fast",
     "starting current above 4,000",
@@ -24,6 +24,9 @@ const CONDITIONS: [&str; 13] = [
     "all hours 0",
     "h outside 0 to 200, or r outside 1 to 200",
     "h² above 100·r",
+    "neighbour's link above n or, unless 0, not above the record holding it",
+    "neighbour's offset beyond 3,000 mm either way, or depth outside 300 to 5,000",
+    "neighbour's c below d",
 ];
 
 const FIELDS: [&str; 8] = [
@@ -50,6 +53,14 @@ fn place(number: u8, place: u8) -> Option<String> {
         (10, 0..=23) => format!("hour {place}: its amperes, 0 to 4,000"),
         (12, 1) => "input 1: preload, percent of the rated current, 0 to 200".to_string(),
         (12, 2) => "input 2: limit, percent of the rated rise, 1 to 200".to_string(),
+        (14, 0) => record("the header's second link"),
+        (14, 1..=48) => record("its next link"),
+        (15, 1..=48) => {
+            record("its offset, 3,000 mm either way at most, and depth, 300 to 5,000 mm")
+        }
+        (16, 1..=48) => {
+            record("its distance from the cable's axis, not below the cable's diameter")
+        }
         (1 | 3 | 4 | 9 | 11 | 13, 0) => "no place is named".to_string(),
         _ => return None,
     })

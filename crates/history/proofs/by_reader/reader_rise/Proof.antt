@@ -1,15 +1,15 @@
 -- As in the plain walk, and each record is read by the reader.
 use borrow.Author.Needs.{needs}
-use Rattle.history.proofs.AtRecord.{AtRecord, first-amperes, at-start, chain-ended, turn-refused, turn-next}
+use Rattle.history.proofs.AtRecord.{ending, AtRecord, first-amperes, at-start, chain-ended, turn-refused, turn-next}
 use Rattle.history.proofs.Said.{said}
 use Rattle.history.proofs.by_reader.reader_rise.Statement.{statement}
 use Rattle.history.proofs.by_reader.reader_rise.Tie as tie
 
 abbrev Inv-loop : tie.InvT-loop
-Inv-loop sheet used at₀ at = AtRecord sheet used at
+Inv-loop sheet trench at₀ at = AtRecord sheet trench at
 
 abbrev μ-loop : tie.MeasureT-loop
-μ-loop sheet used at₀ at = at .last .minutes
+μ-loop sheet trench at₀ at = at .last .minutes
 
 begin-requires : tie.Need-begin-requires Inv-loop μ-loop
 begin-requires c κs = first-amperes (c .before .pre)
@@ -18,7 +18,7 @@ loop-holds : tie.Need-loop-holds Inv-loop μ-loop
 loop-holds c = at-start (c .before .before .pre) (c .begin .ensures)
 
 end-requires : tie.Need-end-requires Inv-loop μ-loop
-end-requires c κs = c .before .before .before .loop .inv .turning
+end-requires c κs = ending (c .before .before .before .loop .inv .turning)
 
 record-read-requires : tie.Need-record-read-requires Inv-loop μ-loop
 record-read-requires c κs = tt

@@ -30,22 +30,16 @@ array-read-current-3 c = search needs
 current-requires : tie.Need-current-requires
 current-requires c κs = search needs
 
-slice-aggregate-answer-line : tie.Need-slice-aggregate-answer-line
-slice-aggregate-answer-line c = search needs
-
-parts-requires : tie.Need-parts-requires
-parts-requires c κs = search needs
-
-answer-line-requires : tie.Need-answer-line-requires
-answer-line-requires c κs = search needs
+current-line-requires : tie.Need-current-line-requires
+current-line-requires c κs = search needs
 
 returns : tie.Need-returns
 returns c =
-    let answered = c .before .before .before in
+    let answered = c .before in
     record {
       answer = answered .current .result;
       said = rw (answered .before .cable-of .ensures) at (answered .current .ensures);
-      printed = rw (c .before .parts .ensures) at (c .answer-line .ensures);
+      printed = c .current-line .ensures;
     }
 
 pub current-of-spec : {M : Type 1} → statement M
@@ -61,7 +55,5 @@ current-of-spec =
     mul-current-2
     array-read-current-3
     current-requires
-    slice-aggregate-answer-line
-    parts-requires
-    answer-line-requires
+    current-line-requires
     returns)

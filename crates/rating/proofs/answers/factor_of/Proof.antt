@@ -12,23 +12,17 @@ hours-from-requires c κs = search needs
 factor-requires : tie.Need-factor-requires
 factor-requires c κs = search needs
 
-slice-aggregate-answer-line : tie.Need-slice-aggregate-answer-line
-slice-aggregate-answer-line c = search needs
-
-parts-requires : tie.Need-parts-requires
-parts-requires c κs = search needs
-
-answer-line-requires : tie.Need-answer-line-requires
-answer-line-requires c κs = search needs
+factor-line-requires : tie.Need-factor-line-requires
+factor-line-requires c κs = search needs
 
 returns : tie.Need-returns
 returns c =
-    let answered = c .before .before .before in
+    let answered = c .before in
     let h = answered .before in
     record {
       answer = answered .factor .result;
       said = record { hours = h .hours-from .result; are = h .hours-from .ensures; said = rw (h .before .cable-of .ensures) at (answered .factor .ensures) };
-      printed = rw (c .before .parts .ensures) at (c .answer-line .ensures);
+      printed = c .factor-line .ensures;
     }
 
 pub factor-of-spec : {M : Type 1} → statement M
@@ -38,7 +32,5 @@ factor-of-spec =
     cable-of-requires
     hours-from-requires
     factor-requires
-    slice-aggregate-answer-line
-    parts-requires
-    answer-line-requires
+    factor-line-requires
     returns)

@@ -12,8 +12,8 @@ use Rattle.rating.specs.Hours.{mostHour, HoursTo}
 use Rattle.rating.proofs.answers.hours_from.Statement.{statement}
 use Rattle.rating.proofs.answers.hours_from.Tie as tie
 
-one-more : (k : ℕ) (values hours : List ℕ) (x : ℕ) → k < 24 → x ≡ min (getD values (8 + k) 0) mostHour → HoursTo k values hours → HoursTo (k + 1) values (set hours k x)
-one-more k values hours x below e so-far =
+one-more : (from k : ℕ) (values hours : List ℕ) (x : ℕ) → k < 24 → x ≡ min (getD values (from + k) 0) mostHour → HoursTo from k values hours → HoursTo from (k + 1) values (set hours k x)
+one-more from k values hours x below e so-far =
     record {
       many = length-set hours k x ∙ so-far .many;
       each =
@@ -25,10 +25,10 @@ one-more k values hours x below e so-far =
     }
 
 abbrev Inv-loop : tie.InvT-loop
-Inv-loop values hours₀ k₀ hours k = (k ≤ 24) × HoursTo k values hours
+Inv-loop from values hours₀ k₀ hours k = (k ≤ 24) × HoursTo from k values hours
 
 abbrev μ-loop : tie.MeasureT-loop
-μ-loop values hours₀ k₀ hours k = 24 - k
+μ-loop from values hours₀ k₀ hours k = 24 - k
 
 loop-holds : tie.Need-loop-holds Inv-loop μ-loop
 loop-holds c = (omega arith, record { many = refl; each = λ j h. absurd (omega (arith, h)) })
@@ -60,7 +60,7 @@ loop-less c = search needs
 loop-again : tie.Need-loop-again Inv-loop μ-loop
 loop-again c =
     let v = c .before .before .loop in
-    (omega arith, one-more (v .k) (c .before .before .before .args .t1) (v .hours) (c .narrowed .result) (omega arith) (c .narrowed .ensures) (v .inv .1))
+    (omega arith, one-more (c .before .before .before .args .from) (v .k) (c .before .before .before .args .t1) (v .hours) (c .narrowed .result) (omega arith) (c .narrowed .ensures) (v .inv .1))
 
 returns : tie.Need-returns Inv-loop μ-loop
 returns c =

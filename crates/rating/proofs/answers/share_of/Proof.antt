@@ -12,22 +12,16 @@ array-read-share c = search needs
 share-requires : tie.Need-share-requires
 share-requires c κs = search needs
 
-slice-aggregate-answer-line : tie.Need-slice-aggregate-answer-line
-slice-aggregate-answer-line c = search needs
-
-parts-requires : tie.Need-parts-requires
-parts-requires c κs = search needs
-
-answer-line-requires : tie.Need-answer-line-requires
-answer-line-requires c κs = search needs
+share-line-requires : tie.Need-share-line-requires
+share-line-requires c κs = search needs
 
 returns : tie.Need-returns
 returns c =
-    let answered = c .before .before .before in
+    let answered = c .before in
     record {
       answer = answered .share .result;
       said = rw (answered .before .cable-of .ensures) at (answered .share .ensures);
-      printed = rw (c .before .parts .ensures) at (c .answer-line .ensures);
+      printed = c .share-line .ensures;
     }
 
 pub share-of-spec : {M : Type 1} → statement M
@@ -37,7 +31,5 @@ share-of-spec =
     cable-of-requires
     array-read-share
     share-requires
-    slice-aggregate-answer-line
-    parts-requires
-    answer-line-requires
+    share-line-requires
     returns)

@@ -21,16 +21,19 @@ one-more : (k x : ℕ) (values : List ℕ) → ZeroFrom k values → ZeroFrom (k
 one-more k x values rest j h = getD-set-other values k j x 0 (λ q. absurd (omega arith)) ∙ rest j (omega arith)
 
 abbrev Inv-loop : tie.InvT-loop
-Inv-loop words wanted values₀ k₀ values k = (k ≤ wanted) × ZeroFrom k values
+Inv-loop words named wanted first values₀ k₀ values k = (k ≤ wanted) × ZeroFrom k values
 
 abbrev μ-loop : tie.MeasureT-loop
-μ-loop words wanted values₀ k₀ values k = wanted - k
+μ-loop words named wanted first values₀ k₀ values k = wanted - k
+
+first-number-requires : tie.Need-first-number-requires Inv-loop μ-loop
+first-number-requires c κs = search needs
 
 add-if1 : tie.Need-add-if1 Inv-loop μ-loop
 add-if1 c = search needs
 
 returns : tie.Need-returns Inv-loop μ-loop
-returns c = record { count = rw (ne-eqb _ _ (c .if1 .taken)) refl; faulty = tt; rest = λ k h. none-read 32 k }
+returns c = record { count = rw (← c .before .first-number .ensures .0, ne-eqb _ _ (c .if1 .taken)) refl; faulty = tt; rest = λ k h. none-read 32 k }
 
 loop-holds : tie.Need-loop-holds Inv-loop μ-loop
 loop-holds c = (omega arith, λ k h. none-read 32 k)
@@ -47,14 +50,14 @@ enum-known-word c = search needs
 enum-told : tie.Need-enum-told Inv-loop μ-loop
 enum-told c = search needs
 
-add-t14 : tie.Need-add-t14 Inv-loop μ-loop
-add-t14 c = search needs
+add-t16 : tie.Need-add-t16 Inv-loop μ-loop
+add-t16 c = search needs
 
 returns-2 : tie.Need-returns-2 Inv-loop μ-loop
 returns-2 c =
     let turn = c .before .before .before .before in
     record {
-      count = rw (eq-eqb _ _ (turn .before .if1 .left)) refl;
+      count = rw (← turn .before .before .first-number .ensures .0, eq-eqb _ _ (turn .before .if1 .left)) refl;
       faulty = (omega arith, omega arith);
       rest = λ k h. turn .loop .inv .1 k (omega arith);
     }
@@ -79,7 +82,7 @@ loop-again c =
 returns-3 : tie.Need-returns-3 Inv-loop μ-loop
 returns-3 c =
     record {
-      count = rw (eq-eqb _ _ (c .before .before .if1 .left)) refl;
+      count = rw (← c .before .before .before .first-number .ensures .0, eq-eqb _ _ (c .before .before .if1 .left)) refl;
       faulty = tt;
       rest = λ k h. c .before .loop .inv .1 k (omega arith);
     }
@@ -90,6 +93,7 @@ read-spec =
     (tie.spec
     Inv-loop
     μ-loop
+    first-number-requires
     add-if1
     returns
     loop-holds
@@ -97,7 +101,7 @@ read-spec =
     word-at-requires
     enum-known-word
     enum-told
-    add-t14
+    add-t16
     returns-2
     mul-values
     array-write-values

@@ -1,0 +1,20 @@
+-- The factor of the sheet, taken apart and copied.
+use borrow.Author.Needs.{needs}
+use Rattle.kechmowad.proofs.Crossing.{crosses}
+use Rattle.kechmowad.proofs.kechmowad_factor_in_sheet.Statement.{statement}
+use Rattle.kechmowad.proofs.kechmowad_factor_in_sheet.Tie as tie
+
+factor-in-sheet-requires : tie.Need-factor-in-sheet-requires
+factor-in-sheet-requires c κs = search needs
+
+parts-requires : tie.Need-parts-requires
+parts-requires c κs = search needs
+
+copied-requires : tie.Need-copied-requires
+copied-requires c κs = search needs
+
+returns : tie.Need-returns
+returns c = crosses (c .before .before .factor-in-sheet .result) (c .before .before .factor-in-sheet .ensures) (c .before .parts .ensures) (c .copied .ensures)
+
+pub kechmowad-factor-in-sheet-spec : {M : Type 1} → statement M
+kechmowad-factor-in-sheet-spec = tie.close (tie.spec factor-in-sheet-requires parts-requires copied-requires returns)
