@@ -1,20 +1,12 @@
 //! Document 01's cases C1 to C12 through the static library; what is expected stands there.
 //! And days of document 02's note 1, 'The hottest hour', and trenches of its note 2.
 
+mod common;
+
+use common::A;
 use kechmowad::{
     current, current_in_sheet, factor, factor_in_sheet, long_sheet, rise, share, share_in_sheet,
     sheet, Bounds, Cable, Place, Refusal,
-};
-
-const A: Cable = Cable {
-    diameter: 500,
-    depth: 1_000,
-    diffusivity: 500,
-    surface_ratio: 600_000,
-    fast_weight: 500_000,
-    fast_rate: 1_000,
-    slow_rate: 100,
-    rated: 400,
 };
 
 const B: Cable = Cable {
@@ -80,7 +72,7 @@ fn days_hottest_after_a_plateau() {
         midnight[hour] = 400;
     }
     assert_eq!(factor(&A, &midnight), Ok(1_186));
-    // Row F07 of data/reference.tsv, where the highest load's hour has 1,428.
+    // Row F07 of reference.tsv, where the highest load's hour has 1,428.
     let mut f07 = [50; 24];
     f07[8] = 310;
     f07[14..=21].fill(300);

@@ -1,42 +1,39 @@
 //! The small examples of document 01's table 'When the desk is told no' and of document
 //! 02's note 2, through the static library. Number, place and condition are theirs.
 
+mod common;
+
+use common::A;
 use kechmowad::{
     current, current_in_sheet, factor, factor_in_sheet, long_sheet, rise, share, share_in_sheet,
     sheet, Cable, Condition, Place, Refusal,
 };
 
-/// Cable A of the cases.
-fn cable_a() -> Cable {
-    Cable::from([500, 1_000, 500, 600_000, 500_000, 1_000, 100, 400])
-}
-
 /// Cable A with one or two fields changed.
 fn changed(change: impl FnOnce(&mut Cable)) -> Cable {
-    let mut cable = cable_a();
+    let mut cable = A;
     change(&mut cable);
     cable
 }
 
 /// What a sheet of cable A is told.
 fn told(start: u16, first_link: u16, records: &[[u16; 3]]) -> Option<Refusal> {
-    rise(&sheet(&cable_a(), start, first_link, records)).err()
+    rise(&sheet(&A, start, first_link, records)).err()
 }
 
 /// What a sheet of cable A with neighbours alone is told.
 fn told_trench(second_link: u16, records: &[[u16; 3]]) -> Option<Refusal> {
-    rise(&long_sheet(&cable_a(), 300, 0, second_link, records)).err()
+    rise(&long_sheet(&A, 300, 0, second_link, records)).err()
 }
 
 /// The refusal of each number from 1, in their order.
 fn small_examples() -> [Option<Refusal>; 16] {
-    let a = cable_a();
     let thin = changed(|cable| cable.diameter = 99);
     let crossed = changed(|cable| (cable.fast_rate, cable.slow_rate) = (100, 101));
     let mut hours = [200; 24];
     hours[5] = 4_001;
     [
-        rise(&sheet(&a, 300, 0, &[])[..35]).err(),
+        rise(&sheet(&A, 300, 0, &[])[..35]).err(),
         share(&thin, 60).err(),
         share(&crossed, 60).err(),
         told(4_001, 0, &[]),
@@ -44,11 +41,11 @@ fn small_examples() -> [Option<Refusal>; 16] {
         told(300, 1, &[[0, 300, 0]]),
         told(300, 1, &[[30, 4_001, 0]]),
         told(300, 1, &[[30, 300, 2], [30, 300, 0]]),
-        share(&a, 2_881).err(),
-        factor(&a, &hours).err(),
-        factor(&a, &[0; 24]).err(),
-        current(&a, 201, 100, 60).err(),
-        current(&a, 51, 25, 60).err(),
+        share(&A, 2_881).err(),
+        factor(&A, &hours).err(),
+        factor(&A, &[0; 24]).err(),
+        current(&A, 201, 100, 60).err(),
+        current(&A, 51, 25, 60).err(),
         told_trench(1, &[]),
         told_trench(1, &[[3_001, 1_000, 0]]),
         told_trench(1, &[[200, 1_000, 2], [49, 1_000, 0]]),
@@ -140,17 +137,16 @@ fn asked_of_sheet(sheet: &[u8], told: Option<Refusal>) {
 
 #[test]
 fn a_sheets_refusals_precede_those_of_what_is_asked() {
-    let a = cable_a();
     for bytes in [
         vec![0; 37],
-        sheet(&a, 4_001, 0, &[]),
+        sheet(&A, 4_001, 0, &[]),
         // A bad load chain, though no step is used.
-        sheet(&a, 300, 1, &[[30, 300, 1]]),
-        long_sheet(&a, 300, 0, 1, &[]),
-        long_sheet(&a, 300, 0, 1, &[[200, 299, 0]]),
-        long_sheet(&a, 300, 0, 1, &[[49, 1_000, 0]]),
+        sheet(&A, 300, 1, &[[30, 300, 1]]),
+        long_sheet(&A, 300, 0, 1, &[]),
+        long_sheet(&A, 300, 0, 1, &[[200, 299, 0]]),
+        long_sheet(&A, 300, 0, 1, &[[49, 1_000, 0]]),
         // Both chains: the load chain's last link comes first.
-        long_sheet(&a, 300, 1, 2, &[[30, 300, 7], [0, 0, 0]]),
+        long_sheet(&A, 300, 1, 2, &[[30, 300, 7], [0, 0, 0]]),
     ] {
         let told = rise(&bytes).err();
         assert!(told.is_some());
@@ -161,7 +157,7 @@ fn a_sheets_refusals_precede_those_of_what_is_asked() {
 #[test]
 fn an_accepted_sheet_is_told_what_is_asked_of_it() {
     let three = [[200, 1_000, 2], [-200i16 as u16, 1_000, 0]];
-    let three = long_sheet(&cable_a(), 300, 0, 1, &three);
+    let three = long_sheet(&A, 300, 0, 1, &three);
     let seen = |told: Option<Refusal>| told.map(|refusal| (refusal.number(), refusal.place));
     let mut hours = [200; 24];
     hours[5] = 4_001;

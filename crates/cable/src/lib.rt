@@ -1,23 +1,13 @@
-// A cable, and its checks 2 and 3.
+// A cable of its fields, its checks 2 and 3, and the cable in use.
 ghost use mathlib.Core.Path.{_≡_};
 ghost use Prim.Native.Nat.{_≤_};
 ghost use lib.ListN.{length};
-ghost use Rattle.cable.specs.Checks.{cableFrom, outsideField};
-ghost use Rattle.cable.specs.Promises.{Checked, Alone, GivenBy};
+ghost use Rattle.cable_rules.specs.Checks.{cableFrom, outsideField};
+ghost use Rattle.cable_rules.specs.Promises.{Checked, Alone, GivenBy};
+pub use cable_rules::Cable;
+pub use cable_rules::CableCheck;
 use refusals::Place;
 use refusals::Refusal;
-
-// The fields in the order and the units of document 01's table; a diffusivity of 0 stands for the default.
-pub struct Cable {
-    pub diameter: u32,
-    pub depth: u32,
-    pub diffusivity: u32,
-    pub surface_ratio: u32,
-    pub fast_weight: u32,
-    pub fast_rate: u32,
-    pub slow_rate: u32,
-    pub rated: u32,
-}
 
 // The cable of its fields in table order; there are eight at least.
 pub fn cable_from(fields: &[u32]) -> Cable
@@ -34,11 +24,6 @@ pub fn cable_from(fields: &[u32]) -> Cable
         slow_rate: fields[6],
         rated: fields[7],
     }
-}
-
-pub enum CableCheck {
-    Accepted(Cable),
-    Refused(Refusal),
 }
 
 // The diffusivity that 0 stands for, in 10^-9 m²/s.

@@ -2,20 +2,20 @@
 use mathlib.Core.Path.{refl}
 use Rattle.numbers.specs.Rounding.{floorZ, ceilZ}
 use Rattle.bounds.specs.Operations.{addB, dividedB}
-use Rattle.cable.specs.Checks.{outsideField, checked, inUse}
-use Rattle.cable.specs.Group.{givenCable}
-use Rattle.share.specs.Answer.{shareFrom}
-use Rattle.sheet.specs.BigEndian.{bigEndian}
-use Rattle.sheet.specs.Layout.{headerLength, wrongLength}
-use Rattle.sheet.specs.Header.{cableOf, checkedHeader}
-use Rattle.sheet.specs.Records.{recordOf, recordAt, checkedRecord}
-use Rattle.sheet.specs.Walk.{walkFrom}
-use Rattle.sheet.specs.Neighbours.{checkedNeighbour}
-use Rattle.sheet.specs.Sheet.{checkedSheet, givenSheet}
-use Rattle.history.specs.Rise.{sumOf, riseOf}
-use Rattle.history.specs.Answer.{riseAnswer}
-use Rattle.cycle.specs.Answer.{factorFrom}
-use Rattle.emergency.specs.Answer.{currentFrom, currentOf}
+use Rattle.cable_rules.specs.Checks.{outsideField, checked, inUse}
+use Rattle.cable_rules.specs.Group.{givenCable}
+use Rattle.share_rules.specs.Answer.{shareFrom}
+use Rattle.sheet_rules.specs.BigEndian.{bigEndian}
+use Rattle.sheet_rules.specs.Layout.{headerLength, wrongLength}
+use Rattle.sheet_rules.specs.Header.{cableOf, checkedHeader}
+use Rattle.sheet_rules.specs.Records.{recordOf, recordAt, checkedRecord}
+use Rattle.sheet_rules.specs.Walk.{walkFrom}
+use Rattle.sheet_rules.specs.Neighbours.{checkedNeighbour}
+use Rattle.sheet_rules.specs.Sheet.{checkedSheet, givenSheet}
+use Rattle.history_rules.specs.Rise.{sumOf, riseOf}
+use Rattle.history_rules.specs.Answer.{riseAnswer}
+use Rattle.cycle_rules.specs.Answer.{factorFrom}
+use Rattle.emergency_rules.specs.Answer.{currentFrom, currentOf}
 use Rattle.cases.specs.Table.{Hold, all, _⨾_, table}
 use Rattle.cases.proofs.Shares.{C9, C10}
 use Rattle.cases.proofs.Rises.{C2, shared}

@@ -11,17 +11,17 @@ use lib.Signed.{_≤ℤ_}
 use Rattle.numbers.proofs.Integers.{le-lin, lin-le}
 use Rattle.numbers.proofs.Largest.{found-largest}
 use Rattle.exact.specs.Share.{Accepted, none}
-use Rattle.cable.specs.Checks.{outsideField, checked, inUse}
-use Rattle.cable.specs.Group.{accepted, alone, givenCable}
-use Rattle.cable.specs.InRange.{numbersIn}
+use Rattle.cable_rules.specs.Checks.{outsideField, checked, inUse}
+use Rattle.cable_rules.specs.Group.{accepted, alone, givenCable}
+use Rattle.cable_rules.specs.InRange.{numbersIn}
 use Rattle.refusals.specs.declared.Place.the-variants.{None}
-use Rattle.share.specs.Pair.{sharePair}
-use Rattle.share.specs.Answer.{shareFrom}
-use Rattle.share.specs.declared.ShareAnswer.the-variants as S
-use Rattle.share.proofs.Promises.{share-promised}
-use Rattle.emergency.specs.Certifying.{mostCurrent, largestCertified}
-use Rattle.emergency.specs.Answer.{currentFrom, currentOf, currentAnswer}
-use Rattle.emergency.proofs.Certifying.{movedLeft, movedRight, certified-moved, certified-falls}
+use Rattle.share_rules.specs.Pair.{sharePair}
+use Rattle.share_rules.specs.Answer.{shareFrom}
+use Rattle.share_rules.specs.declared.ShareAnswer.the-variants as S
+use Rattle.share_rules.proofs.Promises.{share-promised}
+use Rattle.emergency_rules.specs.Certifying.{mostCurrent, largestCertified}
+use Rattle.emergency_rules.specs.Answer.{currentFrom, currentOf, currentAnswer}
+use Rattle.emergency_rules.proofs.Certifying.{movedLeft, movedRight, certified-moved, certified-falls}
 use Rattle.cases.specs.Table.{Meant, any-minutes, current, values, refusal, cableA, ratedA}
 use Rattle.cases.proofs.Shares.{high-above-zero}
 

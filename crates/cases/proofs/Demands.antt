@@ -8,30 +8,30 @@ use Rattle.bounds.specs.declared.Bounds.{Bounds}
 use Rattle.refusals.specs.Stated.{Stated, statedValues, statedRefusal}
 use Rattle.refusals.specs.declared.Refusal.{Refusal}
 use Rattle.refusals.proofs.Stated.{no-values}
-use Rattle.cable.specs.Checks.{inUse}
-use Rattle.cable.specs.Group.{Group, Given, accepted, refused, inTrench, givenCable}
-use Rattle.cable.specs.InRange.{Sound}
-use Rattle.cable.specs.declared.Cable.{Cable}
-use Rattle.cable.proofs.Acceptance.{given-alone, given-sound}
-use Rattle.share.specs.Answer.{shareFrom, shareAnswer, statedShare, ShareSaid}
-use Rattle.share.specs.declared.ShareAnswer.the-variants as S
-use Rattle.share.proofs.Promises.{answered-accepted, answered-gap}
-use Rattle.share.proofs.Rising.{exact-share-bounds}
+use Rattle.cable_rules.specs.Checks.{inUse}
+use Rattle.cable_rules.specs.Group.{Group, Given, accepted, refused, inTrench, givenCable}
+use Rattle.cable_rules.specs.InRange.{Sound}
+use Rattle.cable_rules.specs.declared.Cable.{Cable}
+use Rattle.cable_rules.proofs.Acceptance.{given-alone, given-sound}
+use Rattle.share_rules.specs.Answer.{shareFrom, shareAnswer, statedShare, ShareSaid}
+use Rattle.share_rules.specs.declared.ShareAnswer.the-variants as S
+use Rattle.share_rules.proofs.Promises.{answered-accepted, answered-gap}
+use Rattle.share_rules.proofs.Rising.{exact-share-bounds}
 use Rattle.exact.specs.Share.{Neighbour}
-use Rattle.sheet.specs.Header.{cableOf, startingCurrent}
-use Rattle.sheet.specs.Chain.{chainOf}
-use Rattle.sheet.specs.Neighbours.{neighboursIn, trenchOf}
-use Rattle.sheet.specs.Sheet.{groupOf, givenSheet}
-use Rattle.sheet.proofs.SheetChecks.{given-group, sheet-sound}
-use Rattle.history.specs.Answer.{riseFrom, riseOfGiven, riseAnswer, statedRise, historyOf, RiseSaid}
-use Rattle.history.specs.declared.RiseAnswer.the-variants as R
-use Rattle.history.proofs.Said.{rise-steps, exact-rise-bounds}
-use Rattle.cycle.specs.Answer.{hourPair, factorFrom, factorAnswer, statedFactor, FactorSaid}
-use Rattle.cycle.specs.declared.FactorAnswer.the-variants as F
-use Rattle.cycle.proofs.Said.{exact-heating-bounds, factor-below-cap}
-use Rattle.emergency.specs.Answer.{currentOf, currentAnswer, statedCurrent, CurrentSaid}
-use Rattle.emergency.specs.declared.CurrentAnswer.the-variants as C
-use Rattle.emergency.proofs.Said.{current-share-bounds}
+use Rattle.sheet_rules.specs.Header.{cableOf, startingCurrent}
+use Rattle.sheet_rules.specs.Chain.{chainOf}
+use Rattle.sheet_rules.specs.Neighbours.{neighboursIn, trenchOf}
+use Rattle.sheet_rules.specs.Sheet.{groupOf, givenSheet}
+use Rattle.sheet_rules.proofs.SheetChecks.{given-group, sheet-sound}
+use Rattle.history_rules.specs.Answer.{riseFrom, riseOfGiven, riseAnswer, statedRise, historyOf, RiseSaid}
+use Rattle.history_rules.specs.declared.RiseAnswer.the-variants as R
+use Rattle.history_rules.proofs.Said.{rise-steps, exact-rise-bounds}
+use Rattle.cycle_rules.specs.Answer.{hourPair, factorFrom, factorAnswer, statedFactor, FactorSaid}
+use Rattle.cycle_rules.specs.declared.FactorAnswer.the-variants as F
+use Rattle.cycle_rules.proofs.Said.{exact-heating-bounds, factor-below-cap}
+use Rattle.emergency_rules.specs.Answer.{currentOf, currentAnswer, statedCurrent, CurrentSaid}
+use Rattle.emergency_rules.specs.declared.CurrentAnswer.the-variants as C
+use Rattle.emergency_rules.proofs.Said.{current-share-bounds}
 use Rattle.cases.specs.Demands.{ShareDemand, RiseDemand, FactorDemand, CurrentDemand}
 
 -- values are stated of an accepted group alone

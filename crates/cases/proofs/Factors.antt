@@ -18,19 +18,19 @@ use Rattle.numbers.proofs.Rounding.{ceil-high}
 use Rattle.numbers.proofs.Largest.{found-largest}
 use Rattle.bounds.specs.Operations.{pointB, addB, mulB, dividedB}
 use Rattle.bounds.specs.declared.Bounds.{Bounds}
-use Rattle.cable.specs.Checks.{outsideField, checked}
-use Rattle.cable.specs.Group.{alone, givenCable}
-use Rattle.share.specs.Pair.{sharePair}
-use Rattle.share.proofs.Promises.{share-promised}
-use Rattle.cycle.specs.Day.{highestLoad, highestOf, squaredLoads}
-use Rattle.cycle.specs.Heating.{relativeLoad, gatheredBounds, heatingBounds, heatingSum, referenceHour}
-use Rattle.cycle.specs.Factor.{allowed, mostHeating, largestFactor}
-use Rattle.cycle.specs.Answer.{firstAbove, allZero, factorFrom, hourPair}
-use Rattle.cycle.specs.declared.FactorAnswer.the-variants.{Factor}
-use Rattle.cycle.proofs.FactorTest.{allowed-falls}
-use Rattle.cycle.proofs.ReferenceHour.{is-latest-largest, latest-one}
-use Rattle.cable.proofs.Acceptance.{given-sound}
-use Rattle.cycle.proofs.Said.{largest-sum-to}
+use Rattle.cable_rules.specs.Checks.{outsideField, checked}
+use Rattle.cable_rules.specs.Group.{alone, givenCable}
+use Rattle.share_rules.specs.Pair.{sharePair}
+use Rattle.share_rules.proofs.Promises.{share-promised}
+use Rattle.cycle_rules.specs.Day.{highestLoad, highestOf, squaredLoads}
+use Rattle.cycle_rules.specs.Heating.{relativeLoad, gatheredBounds, heatingBounds, heatingSum, referenceHour}
+use Rattle.cycle_rules.specs.Factor.{allowed, mostHeating, largestFactor}
+use Rattle.cycle_rules.specs.Answer.{firstAbove, allZero, factorFrom, hourPair}
+use Rattle.cycle_rules.specs.declared.FactorAnswer.the-variants.{Factor}
+use Rattle.cycle_rules.proofs.FactorTest.{allowed-falls}
+use Rattle.cycle_rules.proofs.ReferenceHour.{is-latest-largest, latest-one}
+use Rattle.cable_rules.proofs.Acceptance.{given-sound}
+use Rattle.cycle_rules.proofs.Said.{largest-sum-to}
 use Rattle.cases.specs.Table.{Meant, gives, any-hour, factor, values, oneHour, cableA, cableB}
 use Rattle.cases.proofs.Shares.{accepted-B, low-below-all, by-order, all-of-B}
 use Rattle.cases.proofs.Rises.{none-of}

@@ -7,19 +7,19 @@ use Rattle.numbers.specs.Integer.{lesser, greater}
 use Rattle.numbers.specs.Rounding.{floorZ, ceilZ}
 use Rattle.bounds.specs.Operations.{pointB, addB, mulB, dividedB}
 use Rattle.bounds.specs.declared.Bounds.{Bounds}
-use Rattle.cable.specs.Checks.{outsideField, checked, inUse}
-use Rattle.cable.specs.Group.{alone, inTrench}
-use Rattle.share.specs.Pair.{sharePair}
-use Rattle.sheet.specs.BigEndian.{bigEndian}
-use Rattle.sheet.specs.Layout.{headerLength, wrongLength}
-use Rattle.sheet.specs.Header.{cableOf, checkedHeader}
-use Rattle.sheet.specs.Records.{recordOf, recordAt, checkedRecord}
-use Rattle.sheet.specs.Chain.{Step}
-use Rattle.sheet.specs.Walk.{walkFrom}
-use Rattle.sheet.specs.Neighbours.{checkedNeighbour}
-use Rattle.sheet.specs.Sheet.{checkedSheet, givenSheet}
-use Rattle.history.specs.Rise.{sumOf, riseOf}
-use Rattle.history.specs.Answer.{riseAnswer}
+use Rattle.cable_rules.specs.Checks.{outsideField, checked, inUse}
+use Rattle.cable_rules.specs.Group.{alone, inTrench}
+use Rattle.share_rules.specs.Pair.{sharePair}
+use Rattle.sheet_rules.specs.BigEndian.{bigEndian}
+use Rattle.sheet_rules.specs.Layout.{headerLength, wrongLength}
+use Rattle.sheet_rules.specs.Header.{cableOf, checkedHeader}
+use Rattle.sheet_rules.specs.Records.{recordOf, recordAt, checkedRecord}
+use Rattle.sheet_rules.specs.Chain.{Step}
+use Rattle.sheet_rules.specs.Walk.{walkFrom}
+use Rattle.sheet_rules.specs.Neighbours.{checkedNeighbour}
+use Rattle.sheet_rules.specs.Sheet.{checkedSheet, givenSheet}
+use Rattle.history_rules.specs.Rise.{sumOf, riseOf}
+use Rattle.history_rules.specs.Answer.{riseAnswer}
 use Rattle.cases.specs.Table.{Meant, gives, rise, sheet, values, cableA}
 
 pub none-of : (b : Bounds) → mulB (pointB (pos 0)) b ≡ pointB (pos 0)

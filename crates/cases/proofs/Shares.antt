@@ -21,15 +21,15 @@ use Rattle.exact.proofs.Share.{shareP, attainmentP, share-risesP, share-okP, at
 use Rattle.exact.proofs.ShareRange.{topOrder, share-below-oneP, bottomOrder, share-above-zeroP}
 use Rattle.exact.proofs.SignedShare.{share-plain}
 use Rattle.exact.proofs.Pairs.{most-millionths, least-millionths, around-exp, around-attainment, share-high-attainment, share-low-attainment}
-use Rattle.cable.specs.Checks.{outsideField, checked, inUse}
-use Rattle.cable.specs.Group.{alone, givenCable}
-use Rattle.cable.specs.InRange.{numbersIn}
+use Rattle.cable_rules.specs.Checks.{outsideField, checked, inUse}
+use Rattle.cable_rules.specs.Group.{alone, givenCable}
+use Rattle.cable_rules.specs.InRange.{numbersIn}
 use Rattle.distance.specs.Promised.{Promised}
 use Rattle.bounds.specs.declared.Bounds.{Bounds}
-use Rattle.share.specs.Promises.{shareWidth}
-use Rattle.share.specs.Pair.{sharePair}
-use Rattle.share.specs.Answer.{shareFrom}
-use Rattle.share.proofs.Promises.{share-promised}
+use Rattle.share_rules.specs.Promises.{shareWidth}
+use Rattle.share_rules.specs.Pair.{sharePair}
+use Rattle.share_rules.specs.Answer.{shareFrom}
+use Rattle.share_rules.proofs.Promises.{share-promised}
 use Rattle.cases.specs.Table.{Meant, around, cableB, slowB}
 use Rattle.cases.specs.Table as Table
 

@@ -10,16 +10,16 @@ use lib.Signed.{_≤ℤ_}
 use Rattle.numbers.specs.Signed.{ofInt}
 use Rattle.exact.specs.Value.{Value, AtMost, AtLeast, fromOne, inMillionths, integer, _+ᵥ_, _·ᵥ_, largestᵥ}
 use Rattle.exact.specs.Share.{CableNumbers, Neighbour, share}
-use Rattle.cable.specs.Checks.{inUse}
-use Rattle.cable.specs.InRange.{numbersIn}
-use Rattle.cable.specs.declared.Cable.{Cable}
-use Rattle.share.specs.Promises.{MillionthGap}
-use Rattle.sheet.specs.Header.{cableOf, startingCurrent}
-use Rattle.sheet.specs.Chain.{Step, steps, chainOf}
-use Rattle.sheet.specs.Neighbours.{neighboursIn, trenchOf}
-use Rattle.history.specs.Exact.{exactRise, changes}
-use Rattle.history.specs.Answer.{stepsOf}
-use Rattle.cycle.specs.Exact.{exactHeating}
+use Rattle.cable_rules.specs.Checks.{inUse}
+use Rattle.cable_rules.specs.InRange.{numbersIn}
+use Rattle.cable_rules.specs.declared.Cable.{Cable}
+use Rattle.share_rules.specs.Promises.{MillionthGap}
+use Rattle.sheet_rules.specs.Header.{cableOf, startingCurrent}
+use Rattle.sheet_rules.specs.Chain.{Step, steps, chainOf}
+use Rattle.sheet_rules.specs.Neighbours.{neighboursIn, trenchOf}
+use Rattle.history_rules.specs.Exact.{exactRise, changes}
+use Rattle.history_rules.specs.Answer.{stepsOf}
+use Rattle.cycle_rules.specs.Exact.{exactHeating}
 
 -- Every order from 1 gives bounds of an exact value: what is said of all orders is not empty.
 pub record Bounded (x : Value) : Type 0 where

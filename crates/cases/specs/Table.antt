@@ -7,18 +7,18 @@ use Prim.Native.Nat.{ℕ, _/_, _%_, _≤_}
 use lib.IntN.{ℤ, pos}
 use lib.ListN.{replicate, set, take}
 use lib.Signed.{_≤ℤ_}
-use Rattle.cable.specs.Checks.{fields}
+use Rattle.cable_rules.specs.Checks.{fields}
 use Rattle.refusals.specs.Stated.{Stated, statedValues, statedRefusal}
-use Rattle.cable.specs.Group.{Given, givenCable}
-use Rattle.cable.specs.declared.Cable.{Cable}
+use Rattle.cable_rules.specs.Group.{Given, givenCable}
+use Rattle.cable_rules.specs.declared.Cable.{Cable}
 use Rattle.refusals.specs.declared.Place.{Place}
 use Rattle.refusals.specs.declared.Place.the-variants.{None, Field, Record, Hour, Input}
-use Rattle.share.specs.Answer.{shareAnswer, statedShare}
-use Rattle.sheet.specs.Layout.{wrongLength}
-use Rattle.sheet.specs.Sheet.{givenSheet}
-use Rattle.history.specs.Answer.{historyOf, riseAnswer, statedRise}
-use Rattle.cycle.specs.Answer.{factorAnswer, statedFactor}
-use Rattle.emergency.specs.Answer.{currentAnswer, statedCurrent}
+use Rattle.share_rules.specs.Answer.{shareAnswer, statedShare}
+use Rattle.sheet_rules.specs.Layout.{wrongLength}
+use Rattle.sheet_rules.specs.Sheet.{givenSheet}
+use Rattle.history_rules.specs.Answer.{historyOf, riseAnswer, statedRise}
+use Rattle.cycle_rules.specs.Answer.{factorAnswer, statedFactor}
+use Rattle.emergency_rules.specs.Answer.{currentAnswer, statedCurrent}
 
 -- ---- what a row says
 

@@ -1,19 +1,18 @@
 // The cyclic rating factor of a cable: document 01, 'The daily cycle', with the reference hour of document 02, note 1, 'The hottest hour'; and note 2.
 ghost use mathlib.Core.Path.{_≡_};
-ghost use Prim.Native.Nat.{_≤_, _<_};
-ghost use Rattle.bounds.specs.Operations.{pointB};
-ghost use Rattle.bounds.specs.Promises.{Sized};
 ghost use Rattle.refusals.specs.Apart.{partsOf};
-ghost use Rattle.cable.specs.Group.{givenCable};
-ghost use Rattle.sheet.specs.Sheet.{givenSheet, groupIn, asGivenIn, Laid, OnlyLaid};
-ghost use Rattle.cycle.specs.Day.{dayHours, highestLoad, squaredLoads};
-ghost use Rattle.cycle.specs.Heating.{heatingHours, relativeLoad, gatheredLoad, heatingBounds, heatingSum, referenceHour};
-ghost use Rattle.cycle.specs.Factor.{mostFactor, allowed, largestFactor};
-ghost use Rattle.cycle.specs.Answer.{firstAbove, factorFrom, factorAnswer, hourPair, statedFactor, FactorSaid};
-ghost use Rattle.cycle.specs.Asked.{Ready, Shared, AtHour, DivisorOf, pairsOf, mostDivisor, mostSum};
-ghost use Rattle.cycle.specs.declared.FactorAnswer.the-variants.{Factor};
+ghost use Rattle.cable_rules.specs.Group.{givenCable};
+ghost use Rattle.sheet_rules.specs.Sheet.{givenSheet, groupIn, asGivenIn, Laid, OnlyLaid};
+ghost use Rattle.cycle_rules.specs.Heating.{heatingSum, referenceHour};
+ghost use Rattle.cycle_rules.specs.Factor.{largestFactor};
+ghost use Rattle.cycle_rules.specs.Answer.{firstAbove, factorFrom, factorAnswer, hourPair, statedFactor, FactorSaid};
+ghost use Rattle.cycle_rules.specs.Asked.{Ready};
+ghost use Rattle.cycle_rules.specs.declared.FactorAnswer.the-variants.{Factor};
 use bounds::Bounds;
 use cable::Cable;
+pub use cycle_rules::FactorAnswer;
+use heating::DAY_HOURS;
+use heating::HEATING_HOURS;
 use refusals::Parts;
 use refusals::Place;
 use refusals::Refusal;
@@ -21,31 +20,11 @@ use share::ShareAnswer;
 use sheet::Trench;
 use sheet::TrenchCheck;
 
-// The factor in thousandths, or the first refusal: of the cable or the sheet, then 10, 11.
-pub enum FactorAnswer {
-    Factor(u32),
-    Refused(Refusal),
-}
-
-const DAY_HOURS: usize = 24;
-
-// The hours with a share of their own; those before them count by the mean.
-const HEATING_HOURS: usize = 6;
-
 // In A.
 const MOST_AMPERES: u16 = 4000;
 
 // In minutes.
 const HOUR: u32 = 60;
-
-// Millionths in one.
-const MILLION: u64 = 1000000;
-
-// In thousandths.
-const MOST_FACTOR: u32 = 5000;
-
-// 10^12: a factor's thousandths² times a sum's millionths.
-const MOST_HEATING: i64 = 1000000000000;
 
 // By how many thousandths a cable's rated current may be multiplied where the load goes through `hours` each day: the largest whole m, at most 5,000,
 // with m² times the heating sum at most 10^12, at the hour of the day at which that sum is largest. With T the largest of the 24 exact sums, in
@@ -86,7 +65,7 @@ pub fn factor_of(sheet: &[u8], trench: Trench, hours: [u16; DAY_HOURS]) -> Facto
             place: Place::Hour(above as u8),
         });
     }
-    if highest_load(hours) == 0 {
+    if heating::highest_load(hours) == 0 {
         return FactorAnswer::Refused(Refusal {
             number: 11,
             place: Place::None,
@@ -119,42 +98,7 @@ fn factor_of_day(sheet: &[u8], trench: Trench, hours: [u16; DAY_HOURS]) -> Facto
         };
         shares[i] = pair;
     }
-    FactorAnswer::Factor(largest_factor(largest_sum(shares, hours)))
-}
-
-// The heating sum of the hottest hour: the one at which it is largest. The mean and the divisor are those of all 24 hours.
-fn largest_sum(shares: [Bounds; HEATING_HOURS], hours: [u16; DAY_HOURS]) -> Bounds
-    requires { ⌜ Shared shares hours ⌝ }
-    ensures { λ r. ⌜ (r ≡ heatingBounds (pairsOf shares) hours (referenceHour (pairsOf shares) hours)) × (Sized mostSum r) ⌝ }
-{
-    let mean = squared_loads(hours);
-    let divisor = common_divisor(hours);
-    let mut largest = heating_sum(shares, hours, 0, mean, divisor);
-    for hour in 1..DAY_HOURS {
-        let sum = heating_sum(shares, hours, hour, mean, divisor);
-        if largest.high <= sum.high {
-            largest = sum;
-        }
-    }
-    largest
-}
-
-// The heating sum for a reference hour. What multiplies each share is gathered first; the sum is divided, and so rounded, once.
-fn heating_sum(
-    shares: [Bounds; HEATING_HOURS],
-    hours: [u16; DAY_HOURS],
-    hour: usize,
-    mean: u64,
-    divisor: u64,
-) -> Bounds
-    requires { ⌜ (Shared shares hours) × (AtHour hours hour mean) × (DivisorOf hours divisor) ⌝ }
-    ensures { λ r. ⌜ (r ≡ heatingBounds (pairsOf shares) hours hour) × (Sized mostSum r) ⌝ }
-{
-    let mut sum = Bounds::whole(mean * MILLION);
-    for i in 0..HEATING_HOURS {
-        sum = sum.add(gathered_load(hours, hour, i, mean).mul(shares[i]));
-    }
-    sum.divided(divisor)
+    FactorAnswer::Factor(factors::largest_factor(heating::largest_sum(shares, hours)))
 }
 
 // The first hour above 4,000 A, or 24.
@@ -169,81 +113,4 @@ fn first_above(hours: [u16; DAY_HOURS]) -> usize
         k += 1;
     }
     k
-}
-
-fn highest_load(hours: [u16; DAY_HOURS]) -> u16
-    ensures { λ r. ⌜ r ≡ highestLoad hours ⌝ }
-{
-    let mut highest: u16 = 0;
-    for k in 0..DAY_HOURS {
-        if highest < hours[k] {
-            highest = hours[k];
-        }
-    }
-    highest
-}
-
-// What multiplies G(i + 1).
-fn gathered_load(hours: [u16; DAY_HOURS], hour: usize, i: usize, mean: u64) -> Bounds
-    requires { ⌜ (AtHour hours hour mean) × (i < heatingHours) ⌝ }
-    ensures { λ r. ⌜ r ≡ pointB (gatheredLoad hours hour i) ⌝ }
-{
-    let here = Bounds::whole(relative_load(hours, hour, i, mean));
-    let before = Bounds::whole(relative_load(hours, hour, i + 1, mean));
-    here.add(before.neg())
-}
-
-// The load i hours before an hour, squared, for i below 6, and at 6 the mean, times 24 each.
-fn relative_load(hours: [u16; DAY_HOURS], hour: usize, i: usize, mean: u64) -> u64
-    requires { ⌜ (AtHour hours hour mean) × (i ≤ heatingHours) ⌝ }
-    ensures { λ r. ⌜ (r ≡ relativeLoad hours hour i) × (r ≤ mostDivisor) ⌝ }
-{
-    if i < HEATING_HOURS {
-        let at = (hour + DAY_HOURS - i) % DAY_HOURS;
-        (DAY_HOURS as u64) * numbers::square(hours[at] as u32)
-    } else {
-        mean
-    }
-}
-
-fn squared_loads(hours: [u16; DAY_HOURS]) -> u64
-    ensures { λ r. ⌜ (r ≡ squaredLoads hours dayHours) × (r ≤ mostDivisor) ⌝ }
-{
-    let mut sum: u64 = 0;
-    for k in 0..DAY_HOURS {
-        sum += numbers::square(hours[k] as u32);
-    }
-    sum
-}
-
-fn common_divisor(hours: [u16; DAY_HOURS]) -> u64
-    ensures { λ r. ⌜ DivisorOf hours r ⌝ }
-{
-    (DAY_HOURS as u64) * numbers::square(highest_load(hours) as u32)
-}
-
-// By bisection: low is allowed and high is not, or is past the end.
-fn largest_factor(sum: Bounds) -> u32
-    requires { ⌜ Sized mostSum sum ⌝ }
-    ensures { λ m. ⌜ m ≡ largestFactor (sum .high) ⌝ }
-{
-    let mut low: u32 = 0;
-    let mut high: u32 = MOST_FACTOR + 1;
-    while 1 < high - low {
-        let middle = low + (high - low) / 2;
-        if allowed(sum, middle) {
-            low = middle;
-        } else {
-            high = middle;
-        }
-    }
-    low
-}
-
-fn allowed(sum: Bounds, m: u32) -> bool
-    requires { ⌜ (Sized mostSum sum) × (m ≤ mostFactor) ⌝ }
-    ensures { λ b. ⌜ b ≡ allowed (sum .high) m ⌝ }
-{
-    let heating = sum.times(numbers::square(m));
-    heating.high <= MOST_HEATING
 }

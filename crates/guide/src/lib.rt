@@ -1,8 +1,14 @@
-// What the desk is told besides answers: help, version, and what a refusal and its place mean.
+// What the desk is told besides answers: help, version, what a refusal and its place mean, and what is no question.
 mod explain;
+mod say;
+mod usage;
 
 pub use explain::refusal;
 pub use explain::refusal_at;
+pub use say::complaint;
+pub use say::fault;
+pub use say::unread;
+pub use usage::complain;
 
 // The version of the product stands here alone.
 pub fn version() {

@@ -1,11 +1,8 @@
 // The rise with the chain walked by the reader of the sheet: same answer, same turns, another loop.
-ghost use Rattle.history.specs.Answer.{historyOf, RiseSaid};
-ghost use Rattle.history.specs.Walk.{Begins};
+ghost use Rattle.history_rules.specs.Answer.{historyOf, RiseSaid};
+ghost use Rattle.history_rules.specs.Walk.{Begins};
 use crate::RiseAnswer;
-use crate::Turn;
-use crate::begin;
-use crate::end;
-use crate::step;
+use history_rules::Turn;
 use refusals::Place;
 use refusals::Refusal;
 use sheet::HeaderCheck;
@@ -41,13 +38,13 @@ fn reader_rise(sheet: &[u8], trench: Trench, first: LoadRecord) -> RiseAnswer
     requires { ⌜ Begins (now sheet) trench first ⌝ }
     ensures { λ r. ⌜ RiseSaid (historyOf (now (sheet .entry))) r ⌝ }
 {
-    let mut at = begin(first);
+    let mut at = walk::begin(first);
     loop {
         let last = at.last;
         if last.next == 0 {
-            break RiseAnswer::Rise(end(trench.cable, at));
+            break RiseAnswer::Rise(walk::end(trench.cable, at));
         }
-        let turn = step(sheet, trench, at, reader::record_read(sheet, last.next));
+        let turn = walk::step(sheet, trench, at, reader::record_read(sheet, last.next));
         match turn {
             Turn::Refused(refusal) => break RiseAnswer::Refused(refusal),
             Turn::Next(next) => at = next,

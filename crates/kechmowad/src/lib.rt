@@ -1,13 +1,13 @@
 // The calculations for C and Rust, on numbers and bytes. Each writes its answer as five numbers into a lent array: the refusal's number, 0 for none,
 // the kind and the number of its place, and the values.
 ghost use mathlib.Core.Path.{_≡_};
-ghost use Rattle.cable.specs.Checks.{cableFrom};
-ghost use Rattle.cable.specs.Group.{givenCable};
-ghost use Rattle.sheet.specs.Sheet.{givenSheet};
-ghost use Rattle.share.specs.Answer.{ShareSaid, statedShare};
-ghost use Rattle.history.specs.Answer.{historyOf, RiseSaid, statedRise};
-ghost use Rattle.cycle.specs.Answer.{FactorSaid, statedFactor};
-ghost use Rattle.emergency.specs.Answer.{CurrentSaid, statedCurrent};
+ghost use Rattle.cable_rules.specs.Checks.{cableFrom};
+ghost use Rattle.cable_rules.specs.Group.{givenCable};
+ghost use Rattle.sheet_rules.specs.Sheet.{givenSheet};
+ghost use Rattle.share_rules.specs.Answer.{ShareSaid, statedShare};
+ghost use Rattle.history_rules.specs.Answer.{historyOf, RiseSaid, statedRise};
+ghost use Rattle.cycle_rules.specs.Answer.{FactorSaid, statedFactor};
+ghost use Rattle.emergency_rules.specs.Answer.{CurrentSaid, statedCurrent};
 ghost use Rattle.kechmowad.specs.Crossing.{fiveOf, Crosses};
 use refusals::Parts;
 

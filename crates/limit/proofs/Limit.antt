@@ -12,10 +12,10 @@ use Rattle.numbers.proofs.Integers.{lin-eq, add-lin, mul-lin, neg-up, neg-dn}
 use Rattle.exact.specs.Value.{Value, AtLeast, _⊴_, number, integer, _+ᵥ_, _/ᵥ_}
 use Rattle.exact.proofs.Values.{constant⊴, add⊴, mul⊴}
 use Rattle.distance.proofs.Limits.{limit-moved, limit-unmoved, limit-kept, limit-unkept, limit-divided, limit-undivided}
-use Rattle.history.specs.Rise.{changeOf}
-use Rattle.history.specs.Exact.{exactSum, exactRise}
-use Rattle.emergency.specs.Certifying.{loadChange, roomToLimit}
-use Rattle.emergency.specs.Exact.{exactAdded}
+use Rattle.history_rules.specs.Rise.{changeOf}
+use Rattle.history_rules.specs.Exact.{exactSum, exactRise}
+use Rattle.emergency_rules.specs.Certifying.{loadChange, roomToLimit}
+use Rattle.emergency_rules.specs.Exact.{exactAdded}
 use Rattle.limit.specs.Preload.{riseFromPreload}
 
 module _ (rated h r i : ℕ) (zr : 0 < rated) (share : Value) (sound : share ⊴ share) where

@@ -2,7 +2,7 @@
 use mathlib.Core.List.{[], _∷_}
 use Prim.Native.Nat.{ℕ, _*_}
 use Rattle.exact.specs.Value.{Value}
-use Rattle.history.specs.Exact.{exactRise}
+use Rattle.history_rules.specs.Exact.{exactRise}
 
 -- The rise, 'The load sheet', from a preload of h percent of the rated current by the one step to i. A percent of a whole number of amperes is a whole number
 -- of hundredths, so the three currents are in hundredths of an ampere: the formula asks for nothing but their ratios.

@@ -2,16 +2,12 @@
 ghost use Prim.Native.Nat.{_≤_};
 ghost use Rattle.text.specs.Writing.{lineRoom};
 
-mod answers;
-mod command;
 mod file;
-mod say;
-mod words;
 
 use answers::Asked;
-use command::Command;
 use report::Input;
 use text::Line;
+use words::Command;
 use words::Fault;
 
 fn main() {
@@ -26,7 +22,7 @@ fn main() {
         Command::Explain => explain_command(words),
         Command::Help => help_command(words),
         Command::Version => version_command(words),
-        Command::Unknown => say::complaint(
+        Command::Unknown => guide::complaint(
             b"usage: no such command; rating share, factor, current, rise, explain, help or version\n",
         ),
         _ => calculate(words, command),
@@ -37,16 +33,16 @@ fn main() {
 fn command_given() -> Command {
     let mut word = [0u8; 16];
     let length = os::arg(1, &mut word);
-    command::command_of(&word[..length])
+    words::command_of(&word[..length])
 }
 
 // A calculation of the cable whose numbers follow the command, or of the sheet in a file that is named first.
 fn calculate(words: usize, command: Command) {
-    let named = words::names_file(words);
+    let named = file::names_file(words);
     let given = words::read(words, named, answers::wanted(asked_by(command), named));
     let fault = given.fault;
     let Fault::None = fault else {
-        complain(command, named, fault);
+        guide::complain(command, named, fault);
         return;
     };
     let values = given.values;
@@ -93,51 +89,9 @@ fn line_in_sheet(command: Command, sheet: &[u8], values: [u32; words::ROOM]) -> 
     }
 }
 
-fn complain(command: Command, named: bool, fault: Fault) {
-    if named {
-        complain_of_file(command, fault);
-    } else {
-        complain_of_numbers(command, fault);
-    }
-}
-
-fn complain_of_numbers(command: Command, fault: Fault) {
-    match command {
-        Command::Share => say::fault(
-            fault,
-            b"usage: 9 numbers wanted: rating share D L S K W FAST SLOW RATED MINUTES\n",
-        ),
-        Command::Factor => say::fault(
-            fault,
-            b"usage: 32 numbers wanted: rating factor D L S K W FAST SLOW RATED H0 .. H23\n",
-        ),
-        _ => say::fault(
-            fault,
-            b"usage: 11 numbers wanted: rating current D L S K W FAST SLOW RATED H R MINUTES\n",
-        ),
-    }
-}
-
-fn complain_of_file(command: Command, fault: Fault) {
-    match command {
-        Command::Share => say::fault(
-            fault,
-            b"usage: one number wanted after the file: rating share FILE MINUTES\n",
-        ),
-        Command::Factor => say::fault(
-            fault,
-            b"usage: 24 numbers wanted after the file: rating factor FILE H0 .. H23\n",
-        ),
-        _ => say::fault(
-            fault,
-            b"usage: 3 numbers wanted after the file: rating current FILE H R MINUTES\n",
-        ),
-    }
-}
-
 fn rise_command(words: usize) {
     if words != words::AFTER_FILE {
-        say::complaint(b"usage: one file wanted: rating rise FILE\n");
+        guide::complaint(b"usage: one file wanted: rating rise FILE\n");
         return;
     }
     // A rise takes no numbers.
@@ -155,7 +109,7 @@ fn explain_command(words: usize) {
     let given = words::read(words, false, explained(words));
     let fault = given.fault;
     let Fault::None = fault else {
-        say::fault(
+        guide::fault(
             fault,
             b"usage: one or two numbers wanted: rating explain NUMBER PLACE\n",
         );
@@ -171,7 +125,7 @@ fn explain_command(words: usize) {
 
 fn help_command(words: usize) {
     if words != 2 {
-        say::complaint(b"usage: no more words wanted: rating help\n");
+        guide::complaint(b"usage: no more words wanted: rating help\n");
         return;
     }
     guide::help();
@@ -179,7 +133,7 @@ fn help_command(words: usize) {
 
 fn version_command(words: usize) {
     if words != 2 {
-        say::complaint(b"usage: no more words wanted: rating version\n");
+        guide::complaint(b"usage: no more words wanted: rating version\n");
         return;
     }
     guide::version();

@@ -5,7 +5,7 @@ use lib.IntN.{pos, negsuc}
 use Rattle.refusals.specs.declared.Place.the-variants.{Record}
 use Rattle.text.specs.Writing.{leading, decimalText}
 use Rattle.lines.specs.Lines.{refusalLine, answerLine}
-use Rattle.history.specs.declared.RiseAnswer.the-variants.{Rise, Refused}
+use Rattle.history_rules.specs.declared.RiseAnswer.the-variants.{Rise, Refused}
 use Rattle.report.specs.Lines.{riseLine}
 
 -- "rise -7 9"

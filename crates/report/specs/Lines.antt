@@ -2,8 +2,8 @@
 use mathlib.Core.List.{List, [], _∷_}
 use Prim.Native.Nat.{ℕ}
 use Rattle.lines.specs.Lines.{lineOf}
-use Rattle.history.specs.Answer.{statedRise}
-use Rattle.history.specs.declared.RiseAnswer.{RiseAnswer}
+use Rattle.history_rules.specs.Answer.{statedRise}
+use Rattle.history_rules.specs.declared.RiseAnswer.{RiseAnswer}
 
 -- "rise"
 abbrev pub riseWord : List ℕ

@@ -2,8 +2,8 @@
 use mathlib.Core.List.{List}
 use Prim.Native.Nat.{ℕ}
 use Rattle.io.specs.Counts.{Counts}
-use Rattle.history.specs.Answer.{historyOf, RiseSaid}
-use Rattle.history.specs.declared.RiseAnswer.{RiseAnswer}
+use Rattle.history_rules.specs.Answer.{historyOf, RiseSaid}
+use Rattle.history_rules.specs.declared.RiseAnswer.{RiseAnswer}
 use Rattle.report.specs.declared.Input.{Input}
 use Rattle.report.specs.declared.Input.the-variants.{Length, Failed}
 use Rattle.report.specs.declared.Outcome.{Outcome}

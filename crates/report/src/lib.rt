@@ -2,7 +2,7 @@
 ghost use Prim.Native.Nat.{_≤_};
 ghost use Rattle.text.specs.Writing.{lineRoom};
 ghost use Rattle.lines.specs.Lines.{Says};
-ghost use Rattle.history.specs.Answer.{historyOf, RiseSaid};
+ghost use Rattle.history_rules.specs.Answer.{historyOf, RiseSaid};
 ghost use Rattle.report.specs.Reading.{Within, FromBytes};
 ghost use Rattle.report.specs.Lines.{riseLine};
 use history::RiseAnswer;

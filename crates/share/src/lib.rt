@@ -1,32 +1,19 @@
 // The attained share of a cable after some minutes: document 01, 'The attained share'; document 02, note 2.
 ghost use mathlib.Core.Path.{_≡_};
 ghost use Rattle.refusals.specs.Apart.{partsOf};
-ghost use Rattle.cable.specs.Group.{givenCable};
-ghost use Rattle.sheet.specs.Sheet.{givenSheet, groupIn, asGivenIn, Laid, OnlyLaid};
-ghost use Rattle.share.specs.Pair.{sharePair};
-ghost use Rattle.share.specs.Sums.{Timed, Summed, sumsIn};
-ghost use Rattle.share.specs.Answer.{shareFrom, shareAnswer, statedShare, ShareSaid};
-use attained::Sums;
-use bounds::Bounds;
+ghost use Rattle.cable_rules.specs.Group.{givenCable};
+ghost use Rattle.sheet_rules.specs.Sheet.{givenSheet, groupIn, asGivenIn, Laid, OnlyLaid};
+ghost use Rattle.share_rules.specs.Answer.{shareFrom, shareAnswer, statedShare, ShareSaid};
 use cable::Cable;
 use refusals::Parts;
 use refusals::Place;
 use refusals::Refusal;
-use sheet::RecordRead;
+pub use share_rules::ShareAnswer;
 use sheet::Trench;
 use sheet::TrenchCheck;
 
-// The pair of low and high, in millionths, or the first refusal: of the cable or the sheet, then 9.
-pub enum ShareAnswer {
-    Pair(Bounds),
-    Refused(Refusal),
-}
-
 // Two days.
 const MOST_MINUTES: u32 = 2880;
-
-// In seconds.
-const MINUTE: u64 = 60;
 
 // The share after `minutes`. The pair is the same for equal inputs, encloses the exact share and is at most 50 millionths wide.
 pub fn share(cable: Cable, minutes: u32) -> ShareAnswer
@@ -64,7 +51,7 @@ pub fn share_of(sheet: &[u8], trench: Trench, minutes: u32) -> ShareAnswer
             place: Place::None,
         });
     }
-    ShareAnswer::Pair(pair_of(sheet, trench, minutes))
+    ShareAnswer::Pair(pair::pair_of(sheet, trench, minutes))
 }
 
 // What an answer states.
@@ -75,44 +62,4 @@ pub fn parts(answer: ShareAnswer) -> Parts
         ShareAnswer::Pair(pair) => refusals::of_pair(pair),
         ShareAnswer::Refused(refusal) => refusals::of_refusal(refusal),
     }
-}
-
-// The pair of an accepted cable in use, its neighbours and an accepted minute count.
-fn pair_of(sheet: &[u8], trench: Trench, minutes: u32) -> Bounds
-    requires { ⌜ Timed (now sheet) trench minutes ⌝ }
-    ensures { λ r. ⌜ r ≡ sharePair (groupIn (now (sheet .entry)) trench) minutes ⌝ }
-{
-    let used = trench.cable;
-    let seconds = MINUTE * (minutes as u64);
-    attained::attained_share(
-        sums_in(sheet, trench, seconds),
-        used.surface_ratio as u64,
-        used.fast_weight as u64,
-        used.fast_rate as u64,
-        used.slow_rate as u64,
-        seconds,
-    )
-}
-
-// The sums of the cable and of each neighbour, along their chain. Links rise.
-fn sums_in(sheet: &[u8], trench: Trench, seconds: u64) -> Sums
-    requires { ⌜ Summed (now sheet) trench seconds ⌝ }
-    ensures { λ r. ⌜ r ≡ sumsIn (groupIn (now (sheet .entry)) trench) seconds ⌝ }
-{
-    let used = trench.cable;
-    let diffusion = 8 * seconds * (used.diffusivity as u64);
-    let mut sums = attained::cable_sums(used.diameter as u64, used.depth as u64, diffusion);
-    let mut at = sheet::beside_first(trench.neighbours);
-    while at.next != 0 {
-        let read = sheet::record_at(sheet, at.next);
-        // Never taken: the links of an accepted chain lead to records.
-        let RecordRead::Held(next) = read else {
-            return sums;
-        };
-        let near = sheet::near_of(used.depth, next);
-        let image = sheet::image_of(used.depth, next);
-        sums = attained::joined(sums, near, image, diffusion);
-        at = next;
-    }
-    sums
 }

@@ -1,290 +1,121 @@
-// The load sheet: its bytes, its header with refusals 1 to 4, and one record with refusals 5 to 8. Document 01, 'The load sheet'; document 02, note 2.
+// All checks of a sheet, and what a calculation is given: by a sheet, or by a cable without one. Document 02, note 2.
 ghost use mathlib.Core.Path.{_≡_};
-ghost use Prim.Native.Nat.{_+_, _*_, _≤_};
-ghost use lib.ListN.{length};
-ghost use Rattle.sheet.specs.BigEndian.{bigEndian};
-ghost use Rattle.sheet.specs.Layout.{shortHeader, recordLength, mostRecords, headerLength, recordStart, recordCount, wrongLength};
-ghost use Rattle.sheet.specs.Header.{fieldOf, cableOf, startingCurrent, firstLink, secondLink};
-ghost use Rattle.sheet.specs.Records.{recordOf, beforeFirst, refusedAt};
-ghost use Rattle.sheet.specs.Promises.{HeaderSaid, RecordReadAs, RecordSaid};
+ghost use Rattle.sheet_rules.specs.Promises.{InGround, SheetSaid, TrenchSaid, GivenBySheet, GivenAlone, checkedNext, turnsLeft, outcomeOf};
+ghost use Rattle.sheet_rules.specs.Walk.{walkFrom};
+ghost use Prim.Native.Nat.{suc};
 
-mod neighbours;
 pub mod reader;
-mod whole;
 
 use cable::Cable;
 use cable::CableCheck;
+pub use header::check_header;
 pub use neighbours::beside_first;
+use neighbours::check_neighbour;
 pub use neighbours::image_of;
 pub use neighbours::near_of;
-use refusals::Place;
-use refusals::Refusal;
-pub use whole::Trench;
-pub use whole::TrenchCheck;
-pub use whole::check_sheet;
-pub use whole::given;
-pub use whole::given_alone;
-pub use whole::trench_of;
+pub use records::before_first;
+pub use records::check_record;
+pub use records::record_at;
+use sheet_rules::ChainCheck;
+pub use sheet_rules::Header;
+pub use sheet_rules::HeaderCheck;
+use sheet_rules::Links;
+pub use sheet_rules::LoadRecord;
+pub use sheet_rules::RecordCheck;
+pub use sheet_rules::RecordRead;
+pub use sheet_rules::Trench;
+pub use sheet_rules::TrenchCheck;
 
-// What stands before the records: the cable, the starting current in A, the first link, and the first of the neighbours' links, 0 in a short header.
-pub struct Header {
-    pub cable: Cable,
-    pub start: u32,
-    pub link: usize,
-    pub neighbours: usize,
-}
-
-// The header, or the first refusal in the order 1, 2, 3, 4.
-pub enum HeaderCheck {
-    Accepted(Header),
-    Refused(Refusal),
-}
-
-// A record: its number, the minutes before now, the amperes from then on, the next link. On the chain of neighbours the same bytes are the offset to the side,
-// as it is written, and the depth.
-pub struct LoadRecord {
-    pub number: u8,
-    pub minutes: u32,
-    pub amperes: u32,
-    pub next: usize,
-}
-
-// What reading a record finds.
-pub enum RecordRead {
-    Held(LoadRecord),
-    Missing,
-}
-
-// The record that a link leads to, or its first refusal: in the order 5, 6, 7, 8 on the load chain, 14, 15, 16 on that of neighbours.
-pub enum RecordCheck {
-    Accepted(LoadRecord),
-    Refused(Refusal),
-}
-
-// In bytes.
-const SHORT_HEADER: usize = 36;
-
-const LONG_HEADER: usize = 38;
-
-const RECORD_LENGTH: usize = 6;
-
-const MOST_RECORDS: usize = 48;
-
-// A step's minutes before now.
-const LEAST_MINUTES: u32 = 1;
-
-const MOST_MINUTES: u32 = 2880;
-
-// In A: of the starting current, and of a record. Document 01 states each by itself.
-const MOST_START: u32 = 4000;
-
-const MOST_AMPERES: u32 = 4000;
-
-// The number of `width` bytes at `at`, the most significant first.
-fn number_at(sheet: &[u8], at: usize, width: usize) -> u32
-    requires { ⌜ (at + width ≤ length (now sheet)) × (width ≤ 4) ⌝ }
-    ensures { λ r. ⌜ r ≡ bigEndian (now (sheet .entry)) at width ⌝ }
+// The header of a sheet of which all is accepted, or the first refusal: of the header, of the load chain, of the neighbours.
+pub fn check_sheet(sheet: &[u8]) -> HeaderCheck
+    ensures { λ r. ⌜ SheetSaid (now (sheet .entry)) r ⌝ }
 {
-    let mut number: u32 = 0;
-    let mut i: usize = 0;
-    while i < width {
-        number = number * 256 + of_byte(sheet[at + i]);
-        i += 1;
-    }
-    number
-}
-
-// In a call of its own, so that its range is known.
-fn of_byte(byte: u8) -> u32
-    ensures { λ r. ⌜ r ≡ byte ⌝ }
-{
-    byte as u32
-}
-
-// How long the header of a sheet of `size` bytes is: a second link stands in a long one.
-fn header_length(size: usize) -> usize
-    ensures { λ r. ⌜ r ≡ headerLength size ⌝ }
-{
-    if size % RECORD_LENGTH == LONG_HEADER % RECORD_LENGTH {
-        LONG_HEADER
-    } else {
-        SHORT_HEADER
-    }
-}
-
-// How many records a sheet of `size` bytes holds.
-fn record_count(size: usize) -> usize
-    ensures { λ r. ⌜ r ≡ recordCount size ⌝ }
-{
-    let header = header_length(size);
-    if size < header {
-        0
-    } else {
-        (size - header) / RECORD_LENGTH
-    }
-}
-
-// Whether refusal 1 meets a sheet of `size` bytes.
-fn wrong_length(size: usize) -> bool
-    ensures { λ r. ⌜ r ≡ wrongLength size ⌝ }
-{
-    let count = record_count(size);
-    let header = header_length(size);
-    MOST_RECORDS < count || size != header + RECORD_LENGTH * count
-}
-
-// Field `number` of the table, counted from 1.
-fn field(sheet: &[u8], number: usize) -> u32
-    requires { ⌜ (1 ≤ number) × (number ≤ 8) × (shortHeader ≤ length (now sheet)) ⌝ }
-    ensures { λ r. ⌜ r ≡ fieldOf (now (sheet .entry)) number ⌝ }
-{
-    number_at(sheet, 4 * (number - 1), 4)
-}
-
-fn cable_of(sheet: &[u8]) -> Cable
-    requires { ⌜ shortHeader ≤ length (now sheet) ⌝ }
-    ensures { λ r. ⌜ r ≡ cableOf (now (sheet .entry)) ⌝ }
-{
-    Cable {
-        diameter: field(sheet, 1),
-        depth: field(sheet, 2),
-        diffusivity: field(sheet, 3),
-        surface_ratio: field(sheet, 4),
-        fast_weight: field(sheet, 5),
-        fast_rate: field(sheet, 6),
-        slow_rate: field(sheet, 7),
-        rated: field(sheet, 8),
-    }
-}
-
-fn starting_current(sheet: &[u8]) -> u32
-    requires { ⌜ shortHeader ≤ length (now sheet) ⌝ }
-    ensures { λ r. ⌜ r ≡ startingCurrent (now (sheet .entry)) ⌝ }
-{
-    number_at(sheet, 32, 2)
-}
-
-fn first_link(sheet: &[u8]) -> usize
-    requires { ⌜ shortHeader ≤ length (now sheet) ⌝ }
-    ensures { λ r. ⌜ r ≡ firstLink (now (sheet .entry)) ⌝ }
-{
-    number_at(sheet, 34, 2) as usize
-}
-
-// A short header has no second link.
-fn second_link(sheet: &[u8]) -> usize
-    requires { ⌜ headerLength (length (now sheet)) ≤ length (now sheet) ⌝ }
-    ensures { λ r. ⌜ r ≡ secondLink (now (sheet .entry)) ⌝ }
-{
-    if header_length(sheet.len()) == SHORT_HEADER {
-        0
-    } else {
-        number_at(sheet, SHORT_HEADER, 2) as usize
-    }
-}
-
-// The header of a sheet of any length, or its first refusal.
-pub fn check_header(sheet: &[u8]) -> HeaderCheck
-    ensures { λ r. ⌜ HeaderSaid (now (sheet .entry)) r ⌝ }
-{
-    if wrong_length(sheet.len()) {
-        return HeaderCheck::Refused(Refusal {
-            number: 1,
-            place: Place::None,
-        });
-    }
-    let checked = cable::check_cable(cable_of(sheet));
-    let cable = match checked {
-        CableCheck::Accepted(accepted) => accepted,
-        CableCheck::Refused(refusal) => return HeaderCheck::Refused(refusal),
+    let checked = check_header(sheet);
+    let header = match checked {
+        HeaderCheck::Accepted(accepted) => accepted,
+        HeaderCheck::Refused(refusal) => return HeaderCheck::Refused(refusal),
     };
-    let start = starting_current(sheet);
-    if MOST_START < start {
-        return HeaderCheck::Refused(Refusal {
-            number: 4,
-            place: Place::None,
-        });
+    let load = check_chain(
+        sheet,
+        Links::Load,
+        header.cable,
+        before_first(header.start, header.link),
+    );
+    match load {
+        ChainCheck::Refused(refusal) => return HeaderCheck::Refused(refusal),
+        ChainCheck::Passed => {}
     }
-    let link = first_link(sheet);
-    let neighbours = second_link(sheet);
-    HeaderCheck::Accepted(Header {
-        cable,
-        start,
-        link,
-        neighbours,
-    })
-}
-
-// The header as the record before the first: the starting current, from earlier than every step, and the first link.
-pub fn before_first(start: u32, link: usize) -> LoadRecord
-    ensures { λ r. ⌜ r ≡ beforeFirst start link ⌝ }
-{
-    LoadRecord {
-        number: 0,
-        minutes: MOST_MINUTES + 1,
-        amperes: start,
-        next: link,
+    let beside = check_chain(
+        sheet,
+        Links::Neighbours,
+        header.cable,
+        beside_first(header.neighbours),
+    );
+    match beside {
+        ChainCheck::Refused(refusal) => HeaderCheck::Refused(refusal),
+        ChainCheck::Passed => HeaderCheck::Accepted(header),
     }
 }
 
-// Record `number` of a sheet: the header's for 0, and missing above the last one.
-pub fn record_at(sheet: &[u8], number: usize) -> RecordRead
-    ensures { λ r. ⌜ RecordReadAs (now (sheet .entry)) number r ⌝ }
+// The walk along a chain, for its checks alone. Each turn is nearer to the chain's end: minutes fall on the load chain, and links rise on that of neighbours.
+fn check_chain(sheet: &[u8], links: Links, cable: Cable, first: LoadRecord) -> ChainCheck
+    requires { ⌜ InGround cable ⌝ }
+    ensures { λ r. ⌜ r ≡ outcomeOf (walkFrom (checkedNext links cable) (suc (turnsLeft links first)) (now (sheet .entry)) first) ⌝ }
 {
-    let size = sheet.len();
-    if wrong_length(size) {
-        return RecordRead::Missing;
-    }
-    if record_count(size) < number {
-        return RecordRead::Missing;
-    }
-    if number == 0 {
-        return RecordRead::Held(before_first(starting_current(sheet), first_link(sheet)));
-    }
-    RecordRead::Held(held_record(sheet, number))
-}
-
-fn held_record(sheet: &[u8], number: usize) -> LoadRecord
-    requires { ⌜ (1 ≤ number) × (number ≤ mostRecords) × (recordStart (length (now sheet)) number + recordLength ≤ length (now sheet)) ⌝ }
-    ensures { λ r. ⌜ r ≡ recordOf (now (sheet .entry)) number ⌝ }
-{
-    let header = header_length(sheet.len());
-    let at = header + RECORD_LENGTH * (number - 1);
-    let minutes = number_at(sheet, at, 2);
-    let amperes = number_at(sheet, at + 2, 2);
-    let next = number_at(sheet, at + 4, 2) as usize;
-    LoadRecord {
-        number: number as u8,
-        minutes,
-        amperes,
-        next,
+    let mut at = first;
+    loop {
+        if at.next == 0 {
+            break ChainCheck::Passed;
+        }
+        let checked = check_next(links, cable, at, record_at(sheet, at.next));
+        match checked {
+            RecordCheck::Refused(refusal) => break ChainCheck::Refused(refusal),
+            RecordCheck::Accepted(next) => at = next,
+        }
     }
 }
 
-// What was read at the link of the record `before`, or its first refusal.
-pub fn check_record(before: LoadRecord, read: RecordRead) -> RecordCheck
-    ensures { λ r. ⌜ RecordSaid before read r ⌝ }
+fn check_next(links: Links, cable: Cable, before: LoadRecord, read: RecordRead) -> RecordCheck
+    requires { ⌜ InGround cable ⌝ }
+    ensures { λ r. ⌜ r ≡ checkedNext links cable before read ⌝ }
 {
-    let RecordRead::Held(record) = read else {
-        return refused_at(5, before.number);
-    };
-    if refusals::outside(record.minutes, LEAST_MINUTES, MOST_MINUTES) {
-        return refused_at(6, record.number);
+    match links {
+        Links::Load => check_record(before, read),
+        Links::Neighbours => check_neighbour(cable, before, read),
     }
-    if MOST_AMPERES < record.amperes {
-        return refused_at(7, record.number);
-    }
-    if before.minutes <= record.minutes {
-        return refused_at(8, record.number);
-    }
-    RecordCheck::Accepted(record)
 }
 
-fn refused_at(number: u8, place: u8) -> RecordCheck
-    ensures { λ r. ⌜ r ≡ refusedAt number place ⌝ }
+// What a calculation is given by a sheet.
+pub fn given(sheet: &[u8]) -> TrenchCheck
+    ensures { λ r. ⌜ GivenBySheet (now (sheet .entry)) r ⌝ }
 {
-    RecordCheck::Refused(Refusal {
-        number,
-        place: Place::Record(place),
-    })
+    let checked = check_sheet(sheet);
+    match checked {
+        HeaderCheck::Accepted(header) => TrenchCheck::Accepted(trench_of(header)),
+        HeaderCheck::Refused(refusal) => TrenchCheck::Refused(refusal),
+    }
+}
+
+// What a calculation is given by a cable without a sheet: no neighbours.
+pub fn given_alone(cable: Cable) -> TrenchCheck
+    ensures { λ r. ⌜ GivenAlone cable r ⌝ }
+{
+    let checked = cable::given(cable);
+    match checked {
+        CableCheck::Accepted(used) => TrenchCheck::Accepted(Trench {
+            cable: used,
+            neighbours: 0,
+        }),
+        CableCheck::Refused(refusal) => TrenchCheck::Refused(refusal),
+    }
+}
+
+// What a calculation takes of an accepted sheet's header.
+pub fn trench_of(header: Header) -> Trench
+    ensures { λ r. ⌜ TrenchSaid header r ⌝ }
+{
+    Trench {
+        cable: cable::alone(header.cable),
+        neighbours: header.neighbours,
+    }
 }

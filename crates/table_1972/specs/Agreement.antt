@@ -9,12 +9,12 @@ use lib.ListN.{getD}
 use Rattle.numbers.specs.Integer.{up}
 use Rattle.bounds.specs.Operations.{pointB}
 use Rattle.bounds.specs.declared.Bounds.{Bounds}
-use Rattle.cable.specs.Group.{givenCable}
-use Rattle.cable.specs.declared.Cable.{Cable}
-use Rattle.share.specs.Answer.{shareAnswer}
+use Rattle.cable_rules.specs.Group.{givenCable}
+use Rattle.cable_rules.specs.declared.Cable.{Cable}
+use Rattle.share_rules.specs.Answer.{shareAnswer}
 use Rattle.distance.specs.Promised.{Millionths}
-use Rattle.share.specs.declared.ShareAnswer.{ShareAnswer}
-use Rattle.share.specs.declared.ShareAnswer.the-variants.{Pair, Refused}
+use Rattle.share_rules.specs.declared.ShareAnswer.{ShareAnswer}
+use Rattle.share_rules.specs.declared.ShareAnswer.the-variants.{Pair, Refused}
 use Rattle.table_1972.specs.declared.Ends.{Ends}
 
 -- all its rise is that of the surface, and the conductor's own is over at once

@@ -149,7 +149,7 @@ mod tests {
         // The exact factor is above the cap. No day has so small a sum, yet the rule has it.
         let held = [4_998, 4_999, 5_000, 5_001].map(|m| factor(m, 38_600.0).is_ok());
         assert_eq!(held, [false, false, true, false]);
-        // Row F07 of data/reference.tsv: its largest sum, and the factor of its highest
+        // Row F07 of reference.tsv: its largest sum, and the factor of its highest
         // load's hour, 1,428.
         let held = [1_179, 1_180, 1_181, 1_428].map(|m| factor(m, 717_826.517_434).is_ok());
         assert_eq!(held, [false, true, false, false]);

@@ -4,6 +4,7 @@ use crate::numbers::{any_cable, any_emergency, any_hours, any_minutes, late_day}
 use crate::random::Random;
 use crate::sheets::{any_sheet, mostly_accepted};
 use crate::trench::Trench;
+use kechmowad::{Bounds, Refusal};
 use std::fmt;
 
 /// What is asked.
@@ -41,6 +42,25 @@ pub const CALCULATIONS: [&str; 7] = [
 ];
 
 impl Input {
+    /// The library's answer: what is made of its two values or of its one, or the refusal.
+    pub fn answered<T>(
+        &self,
+        pair: impl FnOnce(Bounds) -> T,
+        whole: impl FnOnce(u32) -> T,
+    ) -> Result<T, Refusal> {
+        match self {
+            Input::Share { trench, minutes } => trench.share(*minutes).map(pair),
+            Input::Rise { sheet } => kechmowad::rise(sheet).map(pair),
+            Input::Factor { trench, hours } => trench.factor(hours).map(whole),
+            Input::Current {
+                trench,
+                h,
+                r,
+                minutes,
+            } => trench.current(*h, *r, *minutes).map(whole),
+        }
+    }
+
     /// A sheet or a set of numbers of any kind.
     pub fn any(random: &mut Random) -> Input {
         match random.below(16) {
@@ -99,6 +119,16 @@ impl Input {
             h,
             r,
             minutes: any_minutes(random),
+        }
+    }
+
+    /// The calculation's name to the programs, whether of a cable alone or of a sheet.
+    pub fn name(&self) -> &'static str {
+        match self {
+            Input::Share { .. } => "share",
+            Input::Rise { .. } => "rise",
+            Input::Factor { .. } => "factor",
+            Input::Current { .. } => "current",
         }
     }
 

@@ -1,8 +1,7 @@
 //! Holds the proved library against the second program, over inputs of every kind, and
-//! the built program `rise` against both and against the table of 1972, and the built
-//! programs and the library against reference values and against the commands and tables
-//! that documents show. The built program `rise_by_reader` gets all that `rise` gets, and
-//! must answer alike.
+//! the built programs `rise` and `rating` against both, and the built programs and the
+//! library against the commands and tables that documents show. The built program
+//! `rise_by_reader` gets all that `rise` gets, and must answer alike.
 
 mod check;
 mod distance;
@@ -14,12 +13,10 @@ mod numbers;
 pub mod pages;
 pub mod program;
 mod random;
-pub mod reference;
 mod rules;
 mod run;
 mod sheets;
 pub mod shown;
-pub mod table;
 mod trench;
 mod trenches;
 pub mod twins;
@@ -27,6 +24,7 @@ pub mod twins;
 pub use check::check;
 pub use history::History;
 pub use input::Input;
+pub use numbers::cable_a;
 pub use random::Random;
-pub use run::{Run, Tally};
+pub use run::{Check, Run, Tally};
 pub use trench::Trench;

@@ -1,24 +1,23 @@
 //! The differential test's command line.
 
 use compare::program::{self, Walks};
-use compare::{check, pages, reference, shown, table, Input, Run, Tally};
+use compare::{check, pages, shown, Check, Input, Run, Tally};
 use std::path::Path;
 use std::process::ExitCode;
 use std::time::{SystemTime, UNIX_EPOCH};
 
 const USAGE: &str = "\
-usage: compare [COUNT [SEED]]                library against second program
-       compare long                          the same, 10,000,000 inputs, seed from the clock
-       compare rise PROGRAMS [COUNT [SEED]]  the same with sheets, through the PROGRAMS too
-       compare table PROGRAMS                the table of 1972 through the PROGRAMS
-       compare reference PROGRAMS            the rows of data/reference-notes.tsv, by library and PROGRAMS
-       compare shown ROOT PROGRAMS FILE..    the commands that files of ROOT show, run with PROGRAMS
-       compare pages ROOT PROGRAMS           the tables of ROOT's pages, against library and PROGRAMS
+usage: compare [COUNT [SEED]]                  library against second program
+       compare long                            the same, 10,000,000 inputs, seed from the clock
+       compare rise PROGRAMS [COUNT [SEED]]    the same with sheets, through the program rise too
+       compare rating PROGRAMS [COUNT [SEED]]  the same, through the program rating too
+       compare shown ROOT PROGRAMS FILE..      the commands that files of ROOT show, run with PROGRAMS
+       compare pages ROOT PROGRAMS             the tables of ROOT's pages, against library and PROGRAMS
 PROGRAMS is the folder of the built programs. What rise gets goes to rise_by_reader too.";
 
 /// What the gate runs, so that it is repeatable.
 const GATE_COUNT: u64 = 1_000_000;
-const GATE_SHEETS: u64 = 10_000;
+const GATE_BY_PROGRAMS: u64 = 10_000;
 const GATE_SEED: u64 = 1972;
 const LONG_COUNT: u64 = 10_000_000;
 
@@ -56,24 +55,24 @@ fn run(run: &Run, count: u64, refusals: &[usize]) -> bool {
     tally.agreed() && missing.is_empty()
 }
 
-/// Numbers against the second program.
-fn against_second(count: u64, seed: u64) -> bool {
+/// Inputs of every kind.
+fn every_kind(check: Check, count: u64, seed: u64) -> bool {
     let asked = Run {
         seed,
         make: Input::any,
-        check: &check,
+        check,
     };
     let refusals = [&OF_SHEET[..], &OF_QUESTION].concat();
     run(&asked, count, &refusals)
 }
 
-/// Sheets through the programs, and one of every length.
-fn through_programs(programs: &str, count: u64, seed: u64) -> bool {
+/// Sheets through the programs that walk one, and one of every length.
+fn through_walks(programs: &str, count: u64, seed: u64) -> bool {
     let walks = Walks::of(Path::new(programs));
     let asked = Run {
         seed,
         make: Input::any_rise,
-        check: &|input| program::check(&walks, input),
+        check: &|input| program::by_rise(&walks, input),
     };
     let agreed = run(&asked, count, &OF_SHEET);
     let lengths = program::every_length(&walks);
@@ -99,20 +98,23 @@ fn numbers(words: &[&str], count: u64) -> Option<(u64, u64)> {
 /// Whether all agreed; nothing where the words are no command.
 fn command(words: &[&str]) -> Option<bool> {
     match words {
-        ["long"] => Some(against_second(LONG_COUNT, clock())),
+        ["long"] => Some(every_kind(&check, LONG_COUNT, clock())),
         ["shown", root, programs, files @ ..] => {
             Some(shown::run(Path::new(root), Path::new(programs), files))
         }
         ["pages", root, programs] => Some(pages::run(Path::new(root), Path::new(programs))),
-        ["table", programs] => Some(table::run(Path::new(programs))),
-        ["reference", programs] => Some(reference::run(Path::new(programs))),
         ["rise", programs, rest @ ..] => {
-            let (count, seed) = numbers(rest, GATE_SHEETS)?;
-            Some(through_programs(programs, count, seed))
+            let (count, seed) = numbers(rest, GATE_BY_PROGRAMS)?;
+            Some(through_walks(programs, count, seed))
+        }
+        ["rating", programs, rest @ ..] => {
+            let (count, seed) = numbers(rest, GATE_BY_PROGRAMS)?;
+            let check = |input: &Input| program::by_rating(Path::new(programs), input);
+            Some(every_kind(&check, count, seed))
         }
         rest => {
             let (count, seed) = numbers(rest, GATE_COUNT)?;
-            Some(against_second(count, seed))
+            Some(every_kind(&check, count, seed))
         }
     }
 }

@@ -18,6 +18,11 @@ fn range_of(place: usize) -> (u32, u32) {
 /// The paper's cable A.
 pub const USUAL: [u32; 8] = [500, 1_000, 500, 600_000, 500_000, 1_000, 100, 400];
 
+/// The same as a cable.
+pub fn cable_a() -> Cable {
+    Cable::from(USUAL)
+}
+
 /// Places of the soil's diffusivity, the fast and the slow rate among the fields.
 const DIFFUSIVITY: usize = 2;
 const FAST_RATE: usize = 5;

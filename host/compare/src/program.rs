@@ -1,13 +1,13 @@
-//! The built programs `rise` and `rise_by_reader`: a sheet on standard input, one line on
-//! standard output. They walk the chain in two ways, so that every sheet goes to both and
-//! both must answer alike.
+//! The built programs, each of which answers with one line on standard output. `rise` and
+//! `rise_by_reader` read a sheet on standard input; they walk the chain in two ways, so that
+//! every sheet goes to both and both must answer alike. `rating` takes its question as words.
 
-use crate::check::Verdict;
+use crate::check::{check, Verdict};
 use crate::distance::{require, Held};
 use crate::input::Input;
-use crate::judge;
-use crate::numbers::USUAL;
-use kechmowad::{Bounds, Cable, Refusal};
+use crate::numbers::cable_a;
+use crate::trench::Trench;
+use kechmowad::{Bounds, Refusal};
 use std::fmt;
 use std::io::{ErrorKind, Write};
 use std::path::Path;
@@ -17,6 +17,7 @@ use std::sync::atomic::{AtomicUsize, Ordering};
 /// The programs' names.
 pub const RISE: &str = "rise";
 pub const READER: &str = "rise_by_reader";
+pub const RATING: &str = "rating";
 
 /// Both programs of a folder, and how many of the sheets that they got were answered alike.
 pub struct Walks<'a> {
@@ -39,8 +40,8 @@ impl<'a> Walks<'a> {
     pub fn printed(&self, sheet: &[u8]) -> Result<String, String> {
         self.sheets.fetch_add(1, Ordering::Relaxed);
         // In turn: where there are many sheets, every core has one of its own already.
-        let rise = answer(&self.programs.join(RISE), sheet)?;
-        let reader = answer(&self.programs.join(READER), sheet)?;
+        let rise = answer(&self.programs.join(RISE), &[], sheet)?;
+        let reader = answer(&self.programs.join(READER), &[], sheet)?;
         alike(&rise, &reader)?;
         self.alike.fetch_add(1, Ordering::Relaxed);
         String::from_utf8(rise.stdout).map_err(|error| error.to_string())
@@ -59,10 +60,11 @@ pub fn answered_alike(alike: usize, of: usize, what: &str) -> String {
     format!("{alike} of {of} {what} answered alike by {RISE} and {READER}")
 }
 
-/// Runs a program on a sheet.
-fn answer(program: &Path, sheet: &[u8]) -> Result<Output, String> {
+/// Runs a program with words and a sheet.
+fn answer(program: &Path, words: &[String], sheet: &[u8]) -> Result<Output, String> {
     let told = |error: std::io::Error| format!("{}: {error}", program.display());
     let mut child = Command::new(program)
+        .args(words)
         .stdin(Stdio::piped())
         .stdout(Stdio::piped())
         .stderr(Stdio::piped())
@@ -96,32 +98,76 @@ pub fn alike(rise: &Output, reader: &Output) -> Held {
     require(rise == reader, &words)
 }
 
-/// The line that spells an answer.
-pub fn line_of(said: &Result<Bounds, Refusal>) -> String {
+/// What `rating` prints of a question. A sheet reaches it by its standard input.
+pub fn rating(programs: &Path, input: &Input) -> Result<String, String> {
+    let (trench, numbers) = match input.clone() {
+        Input::Share { trench, minutes } => (trench, vec![minutes]),
+        Input::Rise { sheet } => (Trench::Sheet(sheet), Vec::new()),
+        Input::Factor { trench, hours } => (trench, hours.map(u32::from).to_vec()),
+        Input::Current {
+            trench,
+            h,
+            r,
+            minutes,
+        } => (trench, vec![h, r, minutes]),
+    };
+    let typed = |numbers: &[u32]| numbers.iter().map(u32::to_string).collect();
+    let (laid, sheet): (Vec<String>, _) = match trench {
+        Trench::Alone(cable) => (typed(cable.fields()), Vec::new()),
+        Trench::Sheet(sheet) => (vec!["/dev/stdin".to_string()], sheet),
+    };
+    let words = [vec![input.name().to_string()], laid, typed(&numbers)].concat();
+    let Output {
+        status,
+        stdout,
+        stderr,
+    } = answer(&programs.join(RATING), &words, &sheet)?;
+    let complaint = stderr.escape_ascii();
+    let told = format!("no complaint and status 0, not \"{complaint}\", {status}");
+    require(status.success() && stderr.is_empty(), &told)?;
+    String::from_utf8(stdout).map_err(|error| error.to_string())
+}
+
+/// The line that spells an answer: the calculation's name and its values, or the refusal.
+pub fn spelled(name: &str, said: Result<String, Refusal>) -> String {
     match said {
-        Ok(Bounds { low, high }) => format!("rise {low} {high}\n"),
+        Ok(values) => format!("{name} {values}\n"),
         Err(refusal) => format!("refused {} {}\n", refusal.number(), refusal.place.number()),
     }
 }
 
-/// Holds what was printed to the line that spells the library's answer.
-pub fn spelled(line: &str, said: &Result<Bounds, Refusal>) -> Held {
-    let expected = line_of(said);
-    let words = format!("the line {expected:?}, not {line:?}");
-    require(line == expected, &words)
+/// The line that spells the library's answer to a question.
+pub fn line_of(input: &Input) -> String {
+    let pair = |Bounds { low, high }| format!("{low} {high}");
+    spelled(
+        input.name(),
+        input.answered(pair, |value| value.to_string()),
+    )
 }
 
-/// Asks both programs and the library for the rise of a sheet and judges all.
-pub fn check(walks: &Walks, input: &Input) -> Verdict {
+/// Judges the library's answer, and holds to it what is printed.
+fn holding(input: &Input, printed: impl FnOnce() -> Result<String, String>) -> Verdict {
+    let same = |line: String| {
+        let expected = line_of(input);
+        let words = format!("the line {expected:?}, not {line:?}");
+        require(line == expected, &words)
+    };
+    let mut verdict = check(input);
+    verdict.held = verdict.held.and_then(|()| printed()).and_then(same);
+    verdict
+}
+
+/// Asks the library and both programs for the rise of a sheet and judges all.
+pub fn by_rise(walks: &Walks, input: &Input) -> Verdict {
     let Input::Rise { sheet } = input else {
         panic!("the programs read sheets only: {input}");
     };
-    let said = kechmowad::rise(sheet);
-    let held = walks
-        .printed(sheet)
-        .and_then(|line| spelled(&line, &said))
-        .and_then(|()| judge::rise(sheet, said));
-    Verdict::new(said, |pair| pair.low < 0, held)
+    holding(input, || walks.printed(sheet))
+}
+
+/// Asks the library and `rating` any question and judges both.
+pub fn by_rating(programs: &Path, input: &Input) -> Verdict {
+    holding(input, || rating(programs, input))
 }
 
 /// Longest sheet of `every_length`, in bytes.
@@ -130,12 +176,12 @@ const LENGTHS: usize = 340;
 /// Asks for the rise of a sheet of every length: cable A, 300 A, and zero bytes, which are
 /// links that end a chain. Says what came of it, and whether all agree.
 pub fn every_length(walks: &Walks) -> bool {
-    let head = kechmowad::sheet(&Cable::from(USUAL), 300, 0, &[]);
+    let head = kechmowad::sheet(&cable_a(), 300, 0, &[]);
     let mut agreeing = 0;
     for length in 0..=LENGTHS {
         let mut sheet = head.clone();
         sheet.resize(length, 0);
-        match check(walks, &Input::Rise { sheet }).held {
+        match by_rise(walks, &Input::Rise { sheet }).held {
             Ok(()) => agreeing += 1,
             Err(why) => println!("DISAGREEMENT\n{length} bytes: {why}"),
         }

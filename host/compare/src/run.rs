@@ -17,11 +17,14 @@ const REFUSALS: Range<usize> = 1..17;
 /// How many calculations are tallied.
 const KINDS: usize = CALCULATIONS.len();
 
+/// How an answer is judged.
+pub type Check<'a> = &'a (dyn Fn(&Input) -> Verdict + Sync);
+
 /// What is asked and how an answer is judged.
 pub struct Run<'a> {
     pub seed: u64,
     pub make: fn(&mut Random) -> Input,
-    pub check: &'a (dyn Fn(&Input) -> Verdict + Sync),
+    pub check: Check<'a>,
 }
 
 /// What came of a run.

@@ -3,7 +3,7 @@
 //! runs `rise` is run with `rise_by_reader` too.
 
 use crate::distance::{require, Held};
-use crate::program::{alike, answered_alike, READER, RISE};
+use crate::program::{alike, answered_alike, RATING, READER, RISE};
 use std::path::Path;
 use std::process::{Command, Output};
 
@@ -44,7 +44,7 @@ pub fn by_reader(command: &str) -> Option<String> {
     let mut before = "";
     let mut other = Vec::new();
     for word in command.split(' ') {
-        let runs = program_of(word) == RISE && program_of(before) != "rating";
+        let runs = program_of(word) == RISE && program_of(before) != RATING;
         other.push(if runs {
             word.replace(RISE, READER)
         } else {

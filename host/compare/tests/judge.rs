@@ -1,13 +1,8 @@
 //! The judge refuses what is wrong by a little: each answer of the library agrees, and
 //! none of those beside it does.
 
-use compare::{judge, Trench};
+use compare::{cable_a, judge, Trench};
 use kechmowad::{long_sheet, sheet, Bounds, Cable, Condition, Place, Refusal};
-
-/// Cable A of document 01.
-fn cable_a() -> Cable {
-    Cable::from([500, 1_000, 500, 600_000, 500_000, 1_000, 100, 400])
-}
 
 /// Cable A handed in as numbers.
 fn alone() -> Trench {
@@ -51,7 +46,7 @@ fn only<T: std::fmt::Debug + Copy>(
 
 #[test]
 fn a_share_beyond_an_end_or_51_wide() {
-    // The exact share is 340,185.87 (row S03 of data/reference.tsv).
+    // The exact share is 340,185.87 (row S03 of reference.tsv).
     let judged = |said| judge::share(&alone(), 60, said);
     let own = kechmowad::share(&cable_a(), 60);
     let wrong = [
@@ -116,7 +111,7 @@ fn day(rest: u16, loads: &[(u16, &[usize])]) -> [u16; 24] {
 fn a_factor_by_another_hour_or_another_highest_load() {
     // Document 02, note 1: 'the reference hour becomes the one with the largest rounded-up
     // heating sum of all 24'. Worked out to 60 digits with mpmath; 1,180 and 1,428 stand in
-    // row F07 of data/reference.tsv too. After the right factor come false ones: by the hour
+    // row F07 of reference.tsv too. After the right factor come false ones: by the hour
     // of the highest load, by the last hour before the hottest, and, where it differs, with
     // loads over that of the hottest hour.
     let evening = day(200, &[(400, &[7]), (390, &[17, 18, 19, 20, 21, 22])]);

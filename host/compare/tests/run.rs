@@ -1,7 +1,7 @@
 //! A run: the same inputs for the same seed, and what it says where an answer disagrees.
 
-use compare::{check, program, Input, Random, Run, Trench};
-use kechmowad::{Bounds, Cable, Condition, Place, Refusal};
+use compare::{cable_a, check, program, Input, Random, Run, Trench};
+use kechmowad::{Condition, Place, Refusal};
 
 #[test]
 fn a_seed_stands_for_its_inputs() {
@@ -78,11 +78,6 @@ fn days_that_are_all_even_lack_a_hottest_hour_elsewhere() {
     assert!(lacks(Input::any_factor, 300).is_empty());
 }
 
-/// Cable A of document 01.
-fn cable_a() -> Cable {
-    Cable::from([500, 1_000, 500, 600_000, 500_000, 1_000, 100, 400])
-}
-
 #[test]
 fn sheets_without_neighbours_lack_an_answer_in_which_they_tell() {
     let lacks = |make, count| {
@@ -100,26 +95,14 @@ fn sheets_without_neighbours_lack_an_answer_in_which_they_tell() {
 
 #[test]
 fn a_line_is_spelled_to_the_letter() {
-    let low = Ok(Bounds { low: -7, high: 9 });
-    assert!(program::spelled("rise -7 9\n", &low).is_ok());
-    for line in [
-        "rise -7 9",
-        "rise -7 10\n",
-        "rise -8 9\n",
-        "rise -7 9\n\n",
-        "refused 8 1\n",
-        "",
+    let pair = Ok("-7 9".to_string());
+    assert_eq!(program::spelled("rise", pair), "rise -7 9\n");
+    for (place, line) in [
+        (Place::Record(1), "refused 8 1\n"),
+        (Place::None, "refused 8 0\n"),
     ] {
-        assert!(program::spelled(line, &low).is_err(), "{line:?}");
+        let condition = Condition::Order;
+        let told = Err(Refusal { condition, place });
+        assert_eq!(program::spelled("share", told), line);
     }
-    let told = |place| {
-        Err(Refusal {
-            condition: Condition::Order,
-            place,
-        })
-    };
-    assert!(program::spelled("refused 8 1\n", &told(Place::Record(1))).is_ok());
-    assert!(program::spelled("refused 8 0\n", &told(Place::None)).is_ok());
-    assert!(program::spelled("refused 8 1\n", &told(Place::Record(2))).is_err());
-    assert!(program::spelled("refused 7 1\n", &told(Place::Record(1))).is_err());
 }

@@ -1,8 +1,8 @@
 //! The sheets that are drawn, under document 02, note 2: both headers, chains that share
 //! records, every damage of the neighbours; and sheets of every length.
 
-use compare::{check, History, Input, Random, Trench};
-use kechmowad::{long_sheet, sheet, Cable};
+use compare::{cable_a, check, History, Input, Random, Trench};
+use kechmowad::{long_sheet, sheet};
 use std::collections::BTreeSet;
 
 const SEED: u64 = 1972;
@@ -170,11 +170,6 @@ fn accepted_neighbours_lie_at_every_edge() {
         }
     }
     assert_eq!(seen.len(), 7, "{seen:?}");
-}
-
-/// Cable A of document 01.
-fn cable_a() -> Cable {
-    Cable::from([500, 1_000, 500, 600_000, 500_000, 1_000, 100, 400])
 }
 
 /// Sees that library and second program agree about a sheet, and whether its length is

@@ -2,13 +2,8 @@
 //! apart are told.
 
 use compare::twins::{of_rise, of_trench, other_header, other_order};
-use compare::{History, Trench};
-use kechmowad::{long_sheet, sheet, Cable};
-
-/// Cable A of document 01.
-fn cable_a() -> Cable {
-    Cable::from([500, 1_000, 500, 600_000, 500_000, 1_000, 100, 400])
-}
+use compare::{cable_a, History, Trench};
+use kechmowad::{long_sheet, sheet};
 
 const STEPS: [[u16; 3]; 2] = [[60, 400, 2], [30, 200, 0]];
 

@@ -1,16 +1,12 @@
 //! The daily cycle under document 02, note 1: 'the reference hour becomes the one with
 //! the largest rounded-up heating sum of all 24. The factor rule now speaks of the
-//! largest exact sum'. What is expected stands in data/reference.tsv, in rows N1F01 to
-//! N1F04 of data/reference-notes.tsv, or was worked out to 60 digits with mpmath from the
+//! largest exact sum'. What is expected was worked out to 60 digits with mpmath from the
 //! formulas of document 000, sum by sum and not gathered.
 
 mod common;
 
 use common::A;
 use second::{factor, share, Cable};
-
-/// The reference values, computed at 60 digits by no code of this project.
-const REFERENCE: &str = include_str!("../../../data/reference.tsv");
 
 /// Largest whole m, at most 5,000, with m² times T at most 10^12.
 fn whole_factor(t: f64) -> u32 {
@@ -24,93 +20,6 @@ fn assert_day(c: &Cable, hours: &[u16; 24], t: f64, hour: usize, m: u32) {
     assert!((f.sum_millionths - t).abs() < 1e-6, "{f:?}, not {t}");
     assert_eq!(f.reference_hour, hour);
     assert_eq!(whole_factor(f.sum_millionths), m);
-}
-
-/// The value of a name in a cell of `name=value` with semicolons between.
-fn value<'a>(cell: &'a str, name: &str) -> &'a str {
-    let named = |pair: &'a str| pair.strip_prefix(name)?.strip_prefix('=');
-    cell.split(';').find_map(named).expect("a value of the row")
-}
-
-/// Cable and hours of a row's inputs.
-fn inputs(cell: &str) -> (Cable, [u16; 24]) {
-    let field = |name| value(cell, name).parse().expect("a whole number");
-    let cable = Cable {
-        d: field("d"),
-        l: field("l"),
-        s: field("s"),
-        k: field("k"),
-        w: field("w"),
-        fast: field("fast"),
-        slow: field("slow"),
-        rated: field("rated"),
-    };
-    let mut hours = value(cell, "hours").split(',').map(|word| word.parse());
-    let hours = std::array::from_fn(|_| hours.next().expect("24 hours").expect("amperes"));
-    (cable, hours)
-}
-
-#[test]
-fn rows_of_the_reference() {
-    // The rows name the earliest of equal hours (0, 7, 13, 19, 1), this program the latest.
-    let mut latest = [
-        ("F01", 23),
-        ("F03", 7),
-        ("F05", 17),
-        ("F07", 21),
-        ("F09", 1),
-    ]
-    .into_iter();
-    for row in REFERENCE.lines().filter(|row| row.starts_with("factor\t")) {
-        let cells: Vec<&str> = row.split('\t').collect();
-        let (id, hour) = latest.next().expect("five rows");
-        assert_eq!(cells[1], id);
-        let (c, hours) = inputs(cells[2]);
-        let t: f64 = value(cells[3], "note1_T").parse().unwrap();
-        let m = value(cells[3], "note1_m_rule_min");
-        assert_eq!(m, value(cells[3], "note1_m_rule_max"));
-        assert_day(&c, &hours, t, hour, m.parse().unwrap());
-    }
-    assert_eq!(latest.next(), None);
-}
-
-#[test]
-fn rows_of_the_notes() {
-    // N1F01 to N1F04: cable A without neighbours, and the one factor that each allows.
-    let rows = [
-        (
-            [
-                208, 181, 153, 117, 235, 158, 191, 182, 172, 380, 379, 378, 377, 376, 210, 81, 218,
-                89, 194, 194, 112, 400, 131, 139,
-            ],
-            1_225,
-        ),
-        (
-            [
-                190, 148, 219, 87, 54, 224, 245, 151, 234, 131, 380, 379, 378, 377, 376, 199, 81,
-                216, 214, 111, 150, 53, 400, 233,
-            ],
-            1_224,
-        ),
-        (
-            [
-                228, 189, 129, 400, 246, 242, 111, 236, 207, 128, 114, 106, 208, 190, 147, 380,
-                379, 201, 96, 92, 87, 184, 96, 70,
-            ],
-            1_375,
-        ),
-        (
-            [
-                216, 230, 126, 91, 169, 160, 137, 212, 154, 380, 379, 378, 377, 376, 94, 230, 72,
-                154, 217, 145, 200, 400, 240, 175,
-            ],
-            1_223,
-        ),
-    ];
-    for (hours, m) in rows {
-        let f = factor(&A, &hours).unwrap();
-        assert_eq!(whole_factor(f.sum_millionths), m);
-    }
 }
 
 /// 200 A all day, 400 A at hour 7 and 390 A at hours 17 to 22.

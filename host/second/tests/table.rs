@@ -4,12 +4,18 @@
 
 use second::{share, Cable};
 
-/// β at a whole hour, as the share of a cable with k = 1 and no lag within.
+/// β at a whole hour, as the share of a cable with k = 1 and no lag within. No diameter
+/// above 0.150 m is accepted: there a cable of half the diameter, at half the depth in soil
+/// of a quarter of the diffusivity, has the same β.
 fn beta(d: u32, hour: u32) -> f64 {
+    let (d, l, s) = match d {
+        ..=1_500 => (d, 1_000, 500),
+        _ => (d / 2, 500, 125),
+    };
     let c = Cable {
         d,
-        l: 1_000,
-        s: 500,
+        l,
+        s,
         k: 1_000_000,
         w: 1_000_000,
         fast: 100_000,
@@ -29,7 +35,8 @@ fn entry(d: u32, row: u32) -> f64 {
 }
 
 /// Rows of the table: lines 1392 to 1398 for the diameters 0.030 to 0.100 m (line 1391),
-/// each lengthened by lines 1404 to 1410 for 0.105 to 0.150 m (line 1403).
+/// each lengthened by lines 1404 to 1410 for 0.105 to 0.175 m (line 1403) and by lines 1416
+/// to 1422 for 0.180 to 0.250 m (line 1415).
 const ROWS: &str = include_str!("table-1.txt");
 
 /// Two entries are misprints: Φ0 at 0.100 m (line 1392: 0.100, below its right
@@ -39,22 +46,39 @@ fn misprint(d: u32, row: u32) -> bool {
     (d, row) == (1_000, 0) || (d, row) == (950, 6)
 }
 
+/// The diameter, the row and the value of each entry, as printed.
+fn printed() -> Vec<(u32, u32, f64)> {
+    let mut entries = Vec::new();
+    for (row, values) in (0..).zip(ROWS.lines()) {
+        for (i, value) in (0..).zip(values.split(' ')) {
+            entries.push((300 + 50 * i, row, value.parse().unwrap()));
+        }
+    }
+    assert_eq!(entries.len(), 7 * 45);
+    entries
+}
+
 #[test]
 fn table_1() {
-    let mut compared = 0;
-    let mut check = |d: u32, row: u32, printed: f64| {
-        let apart = (entry(d, row) - printed).abs();
+    for (d, row, value) in printed() {
+        let apart = (entry(d, row) - value).abs();
         if misprint(d, row) {
             assert!((0.008..0.009).contains(&apart));
         } else {
             assert!(apart < 0.001, "d {d} row {row}: {apart}");
-            compared += 1;
-        }
-    };
-    for (row, values) in ROWS.lines().enumerate() {
-        for (i, printed) in values.split(' ').enumerate() {
-            check(300 + 50 * i as u32, row as u32, printed.parse().unwrap());
         }
     }
-    assert_eq!(compared, 7 * 25 - 2);
+}
+
+#[test]
+fn columns_add_up_to_one_but_for_the_misprints() {
+    for d in (300..=2_500).step_by(50) {
+        let column = printed().into_iter().filter(|entry| entry.0 == d);
+        let sum: f64 = column.map(|(_, _, value)| value).sum();
+        let (expected, most) = match (0..7).any(|row| misprint(d, row)) {
+            true => (0.991, 0.0),
+            false => (1.0, 0.002),
+        };
+        assert!((sum - expected).abs() < most + 1e-9, "d {d}: {sum}");
+    }
 }

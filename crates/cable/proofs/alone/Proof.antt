@@ -1,6 +1,6 @@
 -- The test on the diffusivity is that of the definition. Assumes nothing.
 use borrow.Author.Tests.{eq-eqb, ne-eqb}
-use Rattle.cable.specs.Checks.{inUse}
+use Rattle.cable_rules.specs.Checks.{inUse}
 use Rattle.cable.proofs.alone.Statement.{statement}
 use Rattle.cable.proofs.alone.Tie as tie
 

@@ -1,7 +1,7 @@
 -- The two tests are those of the definition, in its order. Assumes nothing.
 use borrow.Author.Needs.{needs}
 use borrow.Author.Tests.{lt-ltb, le-ltb}
-use Rattle.cable.specs.Checks.{checked}
+use Rattle.cable_rules.specs.Checks.{checked}
 use Rattle.cable.proofs.check_cable.Statement.{statement}
 use Rattle.cable.proofs.check_cable.Tie as tie
 

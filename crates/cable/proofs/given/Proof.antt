@@ -1,7 +1,7 @@
 -- Case by case, what the check gives. Assumes nothing.
 use mathlib.Core.Path.{sym, _∙_}
 use borrow.Author.Needs.{needs}
-use Rattle.cable.proofs.Acceptance.{check-given, check-refused}
+use Rattle.cable_rules.proofs.Acceptance.{check-given, check-refused}
 use Rattle.cable.proofs.given.Statement.{statement}
 use Rattle.cable.proofs.given.Tie as tie
 

@@ -5,7 +5,7 @@ use native.Mathlib.Omega.{arith}
 use borrow.Author.Needs.{needs}
 use Rattle.refusals.specs.Ranges.{_to_, orZero, outside}
 use Rattle.refusals.proofs.Ranges.{or-zero-least, or-zero-other}
-use Rattle.cable.specs.Checks.{outsideField}
+use Rattle.cable_rules.specs.Checks.{outsideField}
 use Rattle.cable.proofs.outside_field.Statement.{statement}
 use Rattle.cable.proofs.outside_field.Tie as tie
 

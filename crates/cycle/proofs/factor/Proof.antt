@@ -3,10 +3,10 @@ use mathlib.Core.Path.{sym}
 use borrow.Author.Needs.{needs}
 use borrow.Kind.Array.{good-length, eInt}
 use mir.Syntax.{w16}
-use Rattle.cycle.specs.Day.{dayHours}
-use Rattle.cable.proofs.Acceptance.{given-sound}
-use Rattle.cycle.proofs.Answers.{answer-given}
-use Rattle.cycle.proofs.Said.{said}
+use Rattle.cycle_rules.specs.Day.{dayHours}
+use Rattle.cable_rules.proofs.Acceptance.{given-sound}
+use Rattle.cycle_rules.proofs.Answers.{answer-given}
+use Rattle.cycle_rules.proofs.Said.{said}
 use Rattle.cycle.proofs.factor.Statement.{statement}
 use Rattle.cycle.proofs.factor.Tie as tie
 

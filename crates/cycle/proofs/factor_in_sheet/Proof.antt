@@ -2,10 +2,10 @@
 use mathlib.Core.Path.{sym}
 use borrow.Kind.Array.{good-length, eInt}
 use mir.Syntax.{w16}
-use Rattle.cycle.specs.Day.{dayHours}
-use Rattle.sheet.proofs.SheetChecks.{sheet-sound}
-use Rattle.cycle.proofs.Answers.{answer-given}
-use Rattle.cycle.proofs.Said.{said}
+use Rattle.cycle_rules.specs.Day.{dayHours}
+use Rattle.sheet_rules.proofs.SheetChecks.{sheet-sound}
+use Rattle.cycle_rules.proofs.Answers.{answer-given}
+use Rattle.cycle_rules.proofs.Said.{said}
 use Rattle.cycle.proofs.factor_in_sheet.Statement.{statement}
 use Rattle.cycle.proofs.factor_in_sheet.Tie as tie
 

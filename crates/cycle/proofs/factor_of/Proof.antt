@@ -4,8 +4,8 @@ use native.Mathlib.Omega.{arith}
 use borrow.Author.Needs.{needs}
 use borrow.Kind.Array.{good-length, eInt}
 use mir.Syntax.{w16}
-use Rattle.cycle.specs.Day.{dayHours}
-use Rattle.cycle.proofs.Answers.{hour-refused, nothing-refused, factor-given}
+use Rattle.cycle_rules.specs.Day.{dayHours}
+use Rattle.cycle_rules.proofs.Answers.{hour-refused, nothing-refused, factor-given}
 use Rattle.cycle.proofs.factor_of.Statement.{statement}
 use Rattle.cycle.proofs.factor_of.Tie as tie
 

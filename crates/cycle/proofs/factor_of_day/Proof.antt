@@ -4,12 +4,12 @@ use Prim.Native.Nat.{_-_, _≤_}
 use native.Mathlib.Omega.{arith}
 use borrow.Author.Needs.{needs}
 use Rattle.bounds.specs.declared.Bounds.{Bounds}
-use Rattle.sheet.specs.Sheet.{groupIn}
-use Rattle.cycle.specs.Heating.{heatingHours}
-use Rattle.cycle.specs.Factor.{largestFactor}
-use Rattle.cycle.specs.declared.FactorAnswer.the-variants.{Factor}
-use Rattle.cycle.proofs.Answers.{hour-answered, hour-not-refused}
-use Rattle.cycle.proofs.Shares.{Filled, none-filled, next-filled, filled-shared, same-largest}
+use Rattle.sheet_rules.specs.Sheet.{groupIn}
+use Rattle.cycle_rules.specs.Heating.{heatingHours}
+use Rattle.cycle_rules.specs.Factor.{largestFactor}
+use Rattle.cycle_rules.specs.declared.FactorAnswer.the-variants.{Factor}
+use Rattle.cycle_rules.proofs.Answers.{hour-answered, hour-not-refused}
+use Rattle.cycle_rules.proofs.Shares.{Filled, none-filled, next-filled, filled-shared, same-largest}
 use Rattle.cycle.proofs.factor_of_day.Statement.{statement}
 use Rattle.cycle.proofs.factor_of_day.Tie as tie
 

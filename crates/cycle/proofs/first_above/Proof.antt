@@ -5,9 +5,9 @@ use native.Mathlib.Omega.{arith}
 use borrow.Kind.Array.{good-length, eInt}
 use lib.ListN.{length, drop}
 use mir.Syntax.{w16}
-use Rattle.cycle.specs.Day.{dayHours}
-use Rattle.cycle.specs.Answer.{firstAbove}
-use Rattle.cycle.proofs.Day.{above-here, above-later, above-none}
+use Rattle.cycle_rules.specs.Day.{dayHours}
+use Rattle.cycle_rules.specs.Answer.{firstAbove}
+use Rattle.cycle_rules.proofs.Day.{above-here, above-later, above-none}
 use Rattle.cycle.proofs.first_above.Statement.{statement}
 use Rattle.cycle.proofs.first_above.Tie as tie
 

@@ -2,7 +2,7 @@
 use mathlib.Core.Path.{sym, ap, _∙_}
 use borrow.Author.Needs.{needs}
 use Rattle.refusals.specs.Apart.{partsOf}
-use Rattle.cycle.specs.Answer.{statedFactor}
+use Rattle.cycle_rules.specs.Answer.{statedFactor}
 use Rattle.cycle.proofs.parts.Statement.{statement}
 use Rattle.cycle.proofs.parts.Tie as tie
 

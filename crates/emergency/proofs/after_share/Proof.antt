@@ -9,10 +9,10 @@ use Rattle.refusals.specs.Apart.{refusalIn}
 use Rattle.refusals.specs.Ranges.{outside, _to_}
 use Rattle.refusals.proofs.Ranges.{passed-within}
 use Rattle.distance.specs.Promised.{Millionths}
-use Rattle.share.specs.declared.ShareAnswer.the-variants as S
-use Rattle.share.proofs.Answers.{refusal-handed-on}
-use Rattle.emergency.specs.Answer.{mostPercent}
-use Rattle.emergency.proofs.Answers.{numbers-in-range, share-refused, preload-refused, limit-refused, too-hot-refused, current-given}
+use Rattle.share_rules.specs.declared.ShareAnswer.the-variants as S
+use Rattle.share_rules.proofs.Answers.{refusal-handed-on}
+use Rattle.emergency_rules.specs.Answer.{mostPercent}
+use Rattle.emergency_rules.proofs.Answers.{numbers-in-range, share-refused, preload-refused, limit-refused, too-hot-refused, current-given}
 use Rattle.emergency.proofs.after_share.Statement.{statement}
 use Rattle.emergency.proofs.after_share.Tie as tie
 

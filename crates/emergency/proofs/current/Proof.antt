@@ -1,9 +1,9 @@
 -- `emergency::current` answers for what a cable gives. Assumes nothing.
 use mathlib.Core.Path.{sym}
 use borrow.Author.Needs.{needs}
-use Rattle.cable.proofs.Acceptance.{given-sound}
-use Rattle.emergency.proofs.Answers.{rated-share, answer-after, answer-given}
-use Rattle.emergency.proofs.Said.{said}
+use Rattle.cable_rules.proofs.Acceptance.{given-sound}
+use Rattle.emergency_rules.proofs.Answers.{rated-share, answer-after, answer-given}
+use Rattle.emergency_rules.proofs.Said.{said}
 use Rattle.emergency.proofs.current.Statement.{statement}
 use Rattle.emergency.proofs.current.Tie as tie
 

@@ -1,9 +1,9 @@
 -- `emergency::current_in_sheet` answers for what a sheet gives. Assumes nothing.
 use mathlib.Core.Path.{sym}
 use borrow.Author.Needs.{needs}
-use Rattle.sheet.proofs.SheetChecks.{sheet-sound}
-use Rattle.emergency.proofs.Answers.{rated-share, answer-after, answer-given}
-use Rattle.emergency.proofs.Said.{said}
+use Rattle.sheet_rules.proofs.SheetChecks.{sheet-sound}
+use Rattle.emergency_rules.proofs.Answers.{rated-share, answer-after, answer-given}
+use Rattle.emergency_rules.proofs.Said.{said}
 use Rattle.emergency.proofs.current_in_sheet.Statement.{statement}
 use Rattle.emergency.proofs.current_in_sheet.Tie as tie
 

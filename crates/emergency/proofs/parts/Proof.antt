@@ -2,7 +2,7 @@
 use mathlib.Core.Path.{sym, ap, _∙_}
 use borrow.Author.Needs.{needs}
 use Rattle.refusals.specs.Apart.{partsOf}
-use Rattle.emergency.specs.Answer.{statedCurrent}
+use Rattle.emergency_rules.specs.Answer.{statedCurrent}
 use Rattle.emergency.proofs.parts.Statement.{statement}
 use Rattle.emergency.proofs.parts.Tie as tie
 

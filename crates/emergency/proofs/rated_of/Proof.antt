@@ -1,7 +1,7 @@
 -- Case by case. Assumes nothing.
 use mathlib.Core.Path.{sym, ap}
 use borrow.Author.Needs.{needs}
-use Rattle.emergency.specs.Asked.{ratedOf}
+use Rattle.emergency_rules.specs.Asked.{ratedOf}
 use Rattle.emergency.proofs.rated_of.Statement.{statement}
 use Rattle.emergency.proofs.rated_of.Tie as tie
 

@@ -1,7 +1,7 @@
 -- The loop's invariant is `AtRecord`: at each record of the chain the answer of the rest is the sheet's. The measure is the record's minutes.
 use borrow.Author.Needs.{needs}
-use Rattle.history.proofs.AtRecord.{ending, AtRecord, first-amperes, at-start, chain-ended, turn-refused, turn-next}
-use Rattle.history.proofs.Said.{said}
+use Rattle.history_rules.proofs.AtRecord.{ending, AtRecord, first-amperes, at-start, chain-ended, turn-refused, turn-next}
+use Rattle.history_rules.proofs.Said.{said}
 use Rattle.history.proofs.chain_rise.Statement.{statement}
 use Rattle.history.proofs.chain_rise.Tie as tie
 

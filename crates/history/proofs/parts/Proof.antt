@@ -2,7 +2,7 @@
 use mathlib.Core.Path.{sym, ap, _∙_}
 use borrow.Author.Needs.{needs}
 use Rattle.refusals.specs.Apart.{partsOf}
-use Rattle.history.specs.Answer.{statedRise}
+use Rattle.history_rules.specs.Answer.{statedRise}
 use Rattle.history.proofs.parts.Statement.{statement}
 use Rattle.history.proofs.parts.Tie as tie
 

@@ -1,8 +1,8 @@
 -- The sheet's refusal passes out; an accepted sheet goes to the walk.
 use mathlib.Core.Path.{sym, _∙_}
 use borrow.Author.Needs.{needs}
-use Rattle.history.proofs.Walk.{sheet-refused, begins-plain}
-use Rattle.history.proofs.Said.{said}
+use Rattle.history_rules.proofs.Walk.{sheet-refused, begins-plain}
+use Rattle.history_rules.proofs.Said.{said}
 use Rattle.history.proofs.rise.Statement.{statement}
 use Rattle.history.proofs.rise.Tie as tie
 

@@ -2,7 +2,7 @@
 use mathlib.Core.Path.{sym, ap, _∙_}
 use borrow.Author.Needs.{needs}
 use Rattle.refusals.specs.Apart.{partsOf}
-use Rattle.share.specs.Answer.{statedShare}
+use Rattle.share_rules.specs.Answer.{statedShare}
 use Rattle.share.proofs.parts.Statement.{statement}
 use Rattle.share.proofs.parts.Tie as tie
 

@@ -1,9 +1,9 @@
 -- `share::share` answers for what a cable gives. Assumes nothing.
 use mathlib.Core.Path.{sym}
 use borrow.Author.Needs.{needs}
-use Rattle.cable.proofs.Acceptance.{given-sound}
-use Rattle.share.proofs.Answers.{answer-given}
-use Rattle.share.proofs.Promises.{said}
+use Rattle.cable_rules.proofs.Acceptance.{given-sound}
+use Rattle.share_rules.proofs.Answers.{answer-given}
+use Rattle.share_rules.proofs.Promises.{said}
 use Rattle.share.proofs.share.Statement.{statement}
 use Rattle.share.proofs.share.Tie as tie
 

@@ -1,8 +1,8 @@
 -- `share::share_given` hands on the refusal of what was handed in, or answers for what is given. Assumes nothing.
 use mathlib.Core.Path.{ap}
 use borrow.Author.Needs.{needs}
-use Rattle.sheet.specs.Sheet.{asGivenIn}
-use Rattle.share.proofs.Answers.{answer-given, answer-refused}
+use Rattle.sheet_rules.specs.Sheet.{asGivenIn}
+use Rattle.share_rules.proofs.Answers.{answer-given, answer-refused}
 use Rattle.share.proofs.share_given.Statement.{statement}
 use Rattle.share.proofs.share_given.Tie as tie
 

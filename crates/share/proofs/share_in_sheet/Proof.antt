@@ -1,8 +1,8 @@
 -- `share::share_in_sheet` answers for what a sheet gives. Assumes nothing.
 use mathlib.Core.Path.{sym}
-use Rattle.sheet.proofs.SheetChecks.{sheet-sound}
-use Rattle.share.proofs.Answers.{answer-given}
-use Rattle.share.proofs.Promises.{said}
+use Rattle.sheet_rules.proofs.SheetChecks.{sheet-sound}
+use Rattle.share_rules.proofs.Answers.{answer-given}
+use Rattle.share_rules.proofs.Promises.{said}
 use Rattle.share.proofs.share_in_sheet.Statement.{statement}
 use Rattle.share.proofs.share_in_sheet.Tie as tie
 

@@ -1,8 +1,8 @@
 -- `share::share_of` refuses the minutes or gives the pair. Assumes nothing.
 use mathlib.Core.Path.{sym, ap, _∙_}
 use borrow.Author.Needs.{needs}
-use Rattle.share.specs.declared.ShareAnswer.the-variants.{Pair}
-use Rattle.share.proofs.Answers.{minutes-refused, minutes-accepted, share-given}
+use Rattle.share_rules.specs.declared.ShareAnswer.the-variants.{Pair}
+use Rattle.share_rules.proofs.Answers.{minutes-refused, minutes-accepted, share-given}
 use Rattle.share.proofs.share_of.Statement.{statement}
 use Rattle.share.proofs.share_of.Tie as tie
 

@@ -4,11 +4,11 @@ use mathlib.Core.Bool.{false}
 use Prim.Native.Nat.{ℕ, _+_}
 use borrow.Author.Needs.{needs}
 use Rattle.bounds.specs.declared.Bounds.{Bounds}
-use Rattle.cable.specs.declared.Cable.{Cable}
+use Rattle.cable_rules.specs.declared.Cable.{Cable}
 use Rattle.refusals.specs.declared.Refusal.{Refusal}
 use Rattle.distance.specs.Promised.{Millionths}
-use Rattle.share.specs.declared.ShareAnswer.{ShareAnswer}
-use Rattle.share.specs.declared.ShareAnswer.the-variants.{Pair, Refused}
+use Rattle.share_rules.specs.declared.ShareAnswer.{ShareAnswer}
+use Rattle.share_rules.specs.declared.ShareAnswer.the-variants.{Pair, Refused}
 use Rattle.table_1972.specs.Agreement.{tableCable, shareAfter, InMillionths, endsOf, near, between, agreesAt}
 use Rattle.table_1972.specs.declared.Ends.{Ends}
 use Rattle.table_1972.proofs.agrees.Statement.{statement}

@@ -6,13 +6,13 @@ use borrow.Author.Needs.{needs}
 use borrow.Author.Tests.{eq-eqb, ne-eqb, lt-ltb, le-ltb}
 use lib.IntN.{pos}
 use Rattle.bounds.specs.Operations.{pointB}
-use Rattle.cable.specs.declared.Cable.{Cable}
+use Rattle.cable_rules.specs.declared.Cable.{Cable}
 use Rattle.refusals.specs.Ranges.{outside, _to_}
-use Rattle.cable.specs.Group.{Group, Given, accepted, refused, givenCable}
-use Rattle.share.specs.Pair.{sharePair}
-use Rattle.share.specs.Answer.{mostMinutes, refused9, shareFrom, shareAnswer}
-use Rattle.share.proofs.Promises.{share-pair-range}
-use Rattle.share.specs.declared.ShareAnswer.the-variants.{Pair, Refused}
+use Rattle.cable_rules.specs.Group.{Group, Given, accepted, refused, givenCable}
+use Rattle.share_rules.specs.Pair.{sharePair}
+use Rattle.share_rules.specs.Answer.{mostMinutes, refused9, shareFrom, shareAnswer}
+use Rattle.share_rules.proofs.Promises.{share-pair-range}
+use Rattle.share_rules.specs.declared.ShareAnswer.the-variants.{Pair, Refused}
 use Rattle.table_1972.specs.Agreement.{shareAfter, InMillionths}
 use Rattle.table_1972.proofs.share_after.Statement.{statement}
 use Rattle.table_1972.proofs.share_after.Tie as tie

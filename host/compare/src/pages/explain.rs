@@ -1,7 +1,7 @@
 //! The built programs that pages speak of, and what `rating explain` must print.
 
 use crate::distance::{require, Held};
-use crate::program::Walks;
+use crate::program::{Walks, RATING};
 use kechmowad::Condition;
 use std::path::Path;
 use std::process::Command;
@@ -41,7 +41,7 @@ impl<'a> Built<'a> {
 
 impl Programs for Built<'_> {
     fn explain(&self, words: &[u8]) -> Result<Said, String> {
-        let program = self.folder.join("rating");
+        let program = self.folder.join(RATING);
         let output = Command::new(&program)
             .arg("explain")
             .args(words.iter().map(u8::to_string))

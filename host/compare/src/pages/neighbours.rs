@@ -2,9 +2,10 @@
 
 use super::cells::{EitherWay, Span, Told};
 use super::sheet::{put, range_with, try_sheet, Header, Layout, MOST, TRIED};
-use super::trial::{about, answer, cable_a, result_or};
+use super::trial::{about, answer, result_or};
 use super::Tried;
 use crate::distance::{require, Held};
+use crate::numbers::cable_a;
 use crate::trench::Trench;
 use kechmowad::long_sheet;
 

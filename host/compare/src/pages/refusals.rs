@@ -4,13 +4,11 @@ use super::cable::{FAST, SLOW};
 use super::cells::{place, Range};
 use super::explain::{no_such_place, number_alone, place_begins, place_is};
 use super::tables::Row;
-use super::trial::{
-    about, both, cable_a, current, emergency, every_in_sheet, factor, share, try_one,
-};
+use super::trial::{about, both, current, emergency, every_in_sheet, factor, share, try_one};
 use super::{cells, each_row, Desk, Findings, Found, Tried};
 use crate::distance::{require, Held};
 use crate::input::Input;
-use crate::numbers::USUAL;
+use crate::numbers::{cable_a, USUAL};
 use crate::trench::Trench;
 use kechmowad::{long_sheet, sheet, Cable, Condition};
 

@@ -6,9 +6,10 @@ use super::cells::{between, number, Range, Span, Told};
 use super::explain::place_is;
 use super::neighbours;
 use super::tables::{Row, Section};
-use super::trial::{answer, cable_a, every_in_sheet, result_or, rise, try_one, Expected};
+use super::trial::{answer, every_in_sheet, result_or, rise, try_one, Expected};
 use super::{cells, each_row, Desk, Findings, Found, Tried};
 use crate::distance::{require, Held};
+use crate::numbers::cable_a;
 use kechmowad::{Cable, Place};
 
 /// The parts of a sheet, and how the cell 'what' of each begins.

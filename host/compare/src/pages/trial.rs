@@ -3,7 +3,7 @@
 use super::cells::Refused;
 use crate::distance::{require, Held};
 use crate::input::Input;
-use crate::numbers::USUAL;
+use crate::numbers::cable_a;
 use crate::trench::Trench;
 use kechmowad::{long_sheet, sheet, Bounds, Cable, Refusal};
 
@@ -28,19 +28,10 @@ const DAY: [u16; 24] = [200; 24];
 
 /// Asks the library.
 pub fn answer(input: &Input) -> Answer {
-    let pair = |Bounds { low, high }| [low, high];
-    let whole = |value| [i64::from(value), 0];
-    match input {
-        Input::Share { trench, minutes } => trench.share(*minutes).map(pair),
-        Input::Rise { sheet } => kechmowad::rise(sheet).map(pair),
-        Input::Factor { trench, hours } => trench.factor(hours).map(whole),
-        Input::Current {
-            trench,
-            h,
-            r,
-            minutes,
-        } => trench.current(*h, *r, *minutes).map(whole),
-    }
+    input.answered(
+        |Bounds { low, high }| [low, high],
+        |value| [i64::from(value), 0],
+    )
 }
 
 /// Holds the library's answer to what is expected.
@@ -59,11 +50,6 @@ pub fn try_one(input: &Input, expected: Expected) -> Held {
         Err((number, place)) => format!("refusal {number} at {place}"),
     };
     require(false, &format!("{words}, not {said:?}, for {input}"))
-}
-
-/// The paper's cable A.
-pub fn cable_a() -> Cable {
-    Cable::from(USUAL)
 }
 
 /// Every question about a cable, otherwise usual ones: of the cable alone, and of a sheet.

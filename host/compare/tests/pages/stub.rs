@@ -3,6 +3,7 @@
 
 use compare::pages::{Programs, Said};
 use compare::program::line_of;
+use compare::Input;
 
 /// Words of `rating explain`, and what is printed and complained of for them.
 pub type Fault = (&'static [u8], &'static str, &'static str);
@@ -93,6 +94,8 @@ impl Programs for Stub {
     }
 
     fn rise(&self, sheet: &[u8]) -> Result<String, String> {
-        Ok(line_of(&kechmowad::rise(sheet)))
+        Ok(line_of(&Input::Rise {
+            sheet: sheet.to_vec(),
+        }))
     }
 }

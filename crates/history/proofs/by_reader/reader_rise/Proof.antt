@@ -1,7 +1,7 @@
 -- As in the plain walk, and each record is read by the reader.
 use borrow.Author.Needs.{needs}
-use Rattle.history.proofs.AtRecord.{ending, AtRecord, first-amperes, at-start, chain-ended, turn-refused, turn-next}
-use Rattle.history.proofs.Said.{said}
+use Rattle.history_rules.proofs.AtRecord.{ending, AtRecord, first-amperes, at-start, chain-ended, turn-refused, turn-next}
+use Rattle.history_rules.proofs.Said.{said}
 use Rattle.history.proofs.by_reader.reader_rise.Statement.{statement}
 use Rattle.history.proofs.by_reader.reader_rise.Tie as tie
 

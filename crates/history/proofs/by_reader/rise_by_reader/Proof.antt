@@ -1,10 +1,10 @@
 -- As in `rise`, and the header's own record is read by the reader.
 use mathlib.Core.Path.{_≡_, sym, _∙_}
 use borrow.Author.Needs.{needs}
-use Rattle.sheet.specs.Sheet.{checkedSheet}
-use Rattle.sheet.specs.declared.HeaderCheck.the-variants.{Accepted}
-use Rattle.history.proofs.Walk.{sheet-refused, begins-read, header-not-missing}
-use Rattle.history.proofs.Said.{said}
+use Rattle.sheet_rules.specs.Sheet.{checkedSheet}
+use Rattle.sheet_rules.specs.declared.HeaderCheck.the-variants.{Accepted}
+use Rattle.history_rules.proofs.Walk.{sheet-refused, begins-read, header-not-missing}
+use Rattle.history_rules.proofs.Said.{said}
 use Rattle.history.proofs.by_reader.rise_by_reader.Statement.{statement}
 use Rattle.history.proofs.by_reader.rise_by_reader.Tie as tie
 

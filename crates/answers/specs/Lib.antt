@@ -1,0 +1,4 @@
+pub mod Wanted
+pub mod Hours
+pub mod Lines
+pub mod Examples

@@ -1,5 +1,0 @@
-pub mod Names
-pub mod Words
-pub mod Hours
-pub mod Lines
-pub mod Examples

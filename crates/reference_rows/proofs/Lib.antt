@@ -1,0 +1,3 @@
+pub mod Marks
+pub mod Bytes
+pub mod Judging

@@ -1,0 +1,4 @@
+pub mod Cells
+pub mod Inputs
+pub mod Counting
+pub mod Results

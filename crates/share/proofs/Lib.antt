@@ -1,4 +1,0 @@
-pub mod Answers
-pub mod Promises
-pub mod Rising
-pub mod AtNeighbour

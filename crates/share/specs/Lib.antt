@@ -1,5 +1,0 @@
-pub mod Pair
-pub mod Sums
-pub mod Promises
-pub mod Answer
-pub mod Examples

@@ -1,0 +1,4 @@
+pub mod Pair
+pub mod Promises
+pub mod Answer
+pub mod Examples
