@@ -1,4 +1,2 @@
-pub mod Wanted
-pub mod Hours
 pub mod Lines
 pub mod Examples

@@ -15,9 +15,9 @@ use Rattle.cycle_rules.specs.Answer.{statedFactor, FactorSaid}
 use Rattle.emergency_rules.specs.Answer.{statedCurrent, CurrentSaid}
 use Rattle.commands.specs.Names.{shareWord, factorWord, currentWord}
 use Rattle.words.specs.Words.{cableFields}
-use Rattle.answers.specs.Hours.{HoursFrom}
-use Rattle.answers.specs.declared.Asked.{Asked}
-use Rattle.answers.specs.declared.Asked.the-variants.{Share, Factor, Current}
+use Rattle.asked.specs.Hours.{HoursFrom}
+use Rattle.asked.specs.declared.Asked.{Asked}
+use Rattle.asked.specs.declared.Asked.the-variants.{Share, Factor, Current}
 
 abbrev pub shareLine : ShareAnswer → List ℕ
 shareLine answer = lineOf shareWord statedShare answer

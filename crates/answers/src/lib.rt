@@ -1,6 +1,6 @@
 // The line of each answer, from the numbers that were read: a cable's eight fields, and what is asked of it; or from the bytes of a sheet and what is asked.
 ghost use mathlib.Core.Path.{_≡_};
-ghost use Prim.Native.Nat.{_+_, _≤_, min};
+ghost use Prim.Native.Nat.{_+_, _≤_};
 ghost use lib.ListN.{getD};
 ghost use Rattle.text.specs.Writing.{lineRoom};
 ghost use Rattle.lines.specs.Lines.{Says};
@@ -8,30 +8,19 @@ ghost use Rattle.cable_rules.specs.Checks.{cableFrom};
 ghost use Rattle.cable_rules.specs.Group.{givenCable};
 ghost use Rattle.sheet_rules.specs.Sheet.{givenSheet};
 ghost use Rattle.share_rules.specs.Answer.{ShareSaid};
-ghost use Rattle.cycle_rules.specs.Day.{dayHours};
 ghost use Rattle.emergency_rules.specs.Answer.{CurrentSaid};
-ghost use Rattle.words.specs.Words.{cableFields, numbersRoom};
-ghost use Rattle.answers.specs.Wanted.{moreOf, wantedBy};
-ghost use Rattle.answers.specs.Hours.{HoursFrom, mostHour};
+ghost use Rattle.words.specs.Words.{cableFields};
 ghost use Rattle.answers.specs.Lines.{shareLine, factorLine, currentLine, FactorOf, Answers, OfCable, InSheet};
+pub use asked::Asked;
+use asked::hours_from;
+pub use asked::wanted;
 use cable::Cable;
 use cycle::FactorAnswer;
 use emergency::CurrentAnswer;
 use share::ShareAnswer;
 use text::Line;
 use words::CABLE_FIELDS;
-use words::DAY_HOURS;
 use words::ROOM;
-
-// What is asked of a cable, or of the sheet in a file.
-pub enum Asked {
-    Share,
-    Factor,
-    Current,
-}
-
-// In A: the largest load that 16 bits hold.
-const MOST_HOUR: u32 = 65535;
 
 // The share of a cable after the minutes that stand behind it.
 fn share_of(values: [u32; ROOM]) -> Line
@@ -57,24 +46,6 @@ fn current_of(values: [u32; ROOM]) -> Line
         values[CABLE_FIELDS + 1],
         values[CABLE_FIELDS + 2],
     ))
-}
-
-// How many numbers it takes: a cable's fields, where no file is named, and what is asked.
-pub fn wanted(asked: Asked, named: bool) -> usize
-    ensures { λ r. ⌜ (r ≡ wantedBy asked named) × (r ≤ numbersRoom) ⌝ }
-{
-    let more = more_wanted(asked);
-    if named { more } else { CABLE_FIELDS + more }
-}
-
-fn more_wanted(asked: Asked) -> usize
-    ensures { λ r. ⌜ (r ≡ moreOf asked) × (r ≤ dayHours) ⌝ }
-{
-    match asked {
-        Asked::Share => 1,
-        Asked::Factor => DAY_HOURS,
-        Asked::Current => 3,
-    }
 }
 
 // What is asked of a cable, from the numbers that were read.
@@ -144,26 +115,4 @@ fn cable_of(values: [u32; ROOM]) -> Cable
     ensures { λ r. ⌜ r ≡ cableFrom values ⌝ }
 {
     cable::cable_from(&values)
-}
-
-// The hourly amperes from place `from` on, as the factor takes them: the type's largest value where they are beyond it.
-fn hours_from(values: [u32; ROOM], from: usize) -> [u16; DAY_HOURS]
-    requires { ⌜ from ≤ cableFields ⌝ }
-    ensures { λ r. ⌜ HoursFrom from values r ⌝ }
-{
-    let mut hours = [0u16; DAY_HOURS];
-    for k in 0..DAY_HOURS {
-        hours[k] = narrowed(values[from + k]);
-    }
-    hours
-}
-
-fn narrowed(amperes: u32) -> u16
-    ensures { λ r. ⌜ r ≡ min amperes mostHour ⌝ }
-{
-    if amperes < MOST_HOUR {
-        amperes as u16
-    } else {
-        MOST_HOUR as u16
-    }
 }

@@ -102,5 +102,5 @@ fn outside_field(cable: Cable) -> u8
         cable.slow_rate,
         cable.rated,
     ];
-    refusals::first_outside(&fields, &ranges)
+    ranges::first_outside(&fields, &ranges)
 }

@@ -5,8 +5,8 @@ use Prim.Native.Nat.{ℕ, _≤_, _<_}
 use native.Mathlib.Omega.{arith}
 use borrow.Author.Tests.{ltb-false, le-ltb}
 use lib.Dec.{eqb, ltb}
-use Rattle.refusals.specs.Ranges.{_to_, orZero, outside}
-use Rattle.refusals.proofs.Ranges.{passed-within, within-passes, Each, none-outside, each-passes}
+use Rattle.ranges.specs.Ranges.{_to_, orZero, outside}
+use Rattle.ranges.proofs.Ranges.{passed-within, within-passes, Each, none-outside, each-passes}
 use Rattle.cable_rules.specs.Checks.{ranges, fields, outsideField, checked, inUse}
 use Rattle.cable_rules.specs.Stated.{statedCheck}
 use mathlib.Core.List.{List}

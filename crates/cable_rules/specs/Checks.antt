@@ -4,7 +4,7 @@ use mathlib.Core.List.{List, [], _∷_}
 use Prim.Native.Nat.{ℕ}
 use lib.Dec.{eqb, ltb}
 use lib.ListN.{getD}
-use Rattle.refusals.specs.Ranges.{Range, _to_, orZero, firstOutside}
+use Rattle.ranges.specs.Ranges.{Range, _to_, orZero, firstOutside}
 use Rattle.cable_rules.specs.declared.Cable.{Cable}
 use Rattle.refusals.specs.declared.Place.the-variants.{None, Field}
 use Rattle.cable_rules.specs.declared.CableCheck.{CableCheck}

@@ -3,11 +3,11 @@ use mathlib.Core.Bool.{Bool, true, cond}
 use mathlib.Core.List.{List, [], _∷_}
 use Prim.Native.Nat.{ℕ}
 use Rattle.text.specs.Reading.{sameBytes}
-use Rattle.report.specs.Lines.{riseWord}
+use Rattle.lines.specs.Lines.{riseWord}
 use Rattle.commands.specs.declared.Command.{Command}
 use Rattle.commands.specs.declared.Command.the-variants.{Share, Factor, Current, Rise, Explain, Help, Version, Unknown}
 
--- "share", "factor", "current", "explain"; "rise" is the report's
+-- "share", "factor", "current", "explain"; "rise" stands with the lines
 abbrev pub shareWord : List ℕ
 shareWord = 115 ∷ 104 ∷ 97 ∷ 114 ∷ 101 ∷ []
 

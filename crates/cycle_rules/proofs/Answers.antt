@@ -13,7 +13,7 @@ use Rattle.numbers.proofs.Integers.{le-lin}
 use Rattle.bounds.specs.Promises.{Sized}
 use Rattle.bounds.specs.declared.Bounds.{Bounds}
 use Rattle.refusals.specs.declared.Refusal.{Refusal}
-use Rattle.refusals.proofs.Ranges.{within-passes}
+use Rattle.ranges.proofs.Ranges.{within-passes}
 use Rattle.cable_rules.specs.Group.{Group, Given, refused}
 use Rattle.share_rules.specs.Answer.{mostMinutes, shareFrom}
 use Rattle.share_rules.specs.declared.ShareAnswer.the-variants as S

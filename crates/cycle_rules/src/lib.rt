@@ -2,6 +2,9 @@
 // document 02, note 1, 'The hottest hour'; and note 2.
 use refusals::Refusal;
 
+// In h.
+pub const DAY_HOURS: usize = 24;
+
 // The factor in thousandths, or the first refusal: of the cable or the sheet, then 10, 11.
 pub enum FactorAnswer {
     Factor(u32),

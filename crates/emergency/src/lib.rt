@@ -1,24 +1,14 @@
 // The emergency current of a cable: document 01, 'The emergency current'; document 02, note 2.
 ghost use mathlib.Core.Path.{_≡_};
-ghost use Rattle.numbers.specs.Integer.{up};
 ghost use Rattle.refusals.specs.Apart.{partsOf};
 ghost use Rattle.cable_rules.specs.Group.{givenCable};
 ghost use Rattle.sheet_rules.specs.Sheet.{givenSheet};
-ghost use Rattle.distance.specs.Promised.{Millionths};
-ghost use Rattle.emergency_rules.specs.Asked.{Rated, ratedOf};
-ghost use Rattle.emergency_rules.specs.Answer.{afterShare, statedCurrent, CurrentSaid};
-use bounds::Bounds;
+ghost use Rattle.emergency_rules.specs.Asked.{ratedOf};
+ghost use Rattle.emergency_rules.specs.Answer.{statedCurrent, CurrentSaid};
 use cable::Cable;
-use certifying::RATED;
 pub use emergency_rules::CurrentAnswer;
 use refusals::Parts;
-use refusals::Place;
-use refusals::Refusal;
-use share::ShareAnswer;
 use sheet::TrenchCheck;
-
-// In percent: of a preload, of the rated current; of a limit, of the rated rise.
-const MOST_PERCENT: u32 = 200;
 
 // The current that a cable may carry for `minutes` after a preload of h percent of its rated current, its rise staying within r percent of the
 // rated one: the largest whole number of amperes up to 10,000 that the high share certifies.
@@ -27,7 +17,7 @@ pub fn current(cable: Cable, h: u32, r: u32, minutes: u32) -> CurrentAnswer
 {
     let given = sheet::given_alone(cable);
     let answer = share::share_given(b"", given, minutes);
-    after_share(answer, rated_of(given), h, r)
+    granting::after_share(answer, rated_of(given), h, r)
 }
 
 // The current that the cable of a sheet may carry, with its neighbours. The sheet is only read.
@@ -36,7 +26,7 @@ pub fn current_in_sheet(sheet: &[u8], h: u32, r: u32, minutes: u32) -> CurrentAn
 {
     let given = sheet::given(sheet);
     let answer = share::share_given(sheet, given, minutes);
-    after_share(answer, rated_of(given), h, r)
+    granting::after_share(answer, rated_of(given), h, r)
 }
 
 // The rated current of what is given; where that is refused there is none.
@@ -49,35 +39,6 @@ fn rated_of(given: TrenchCheck) -> u32
     }
 }
 
-// The current from what the share answers: its refusal, that of what was handed in or 9; 12 or 13; or the amperes.
-fn after_share(answer: ShareAnswer, rated: u32, h: u32, r: u32) -> CurrentAnswer
-    requires { ⌜ Rated rated answer ⌝ }
-    ensures { λ a. ⌜ a ≡ afterShare rated h r answer ⌝ }
-{
-    let ShareAnswer::Pair(pair) = answer else {
-        return CurrentAnswer::Refused(refusals::refusal_in(share::parts(answer)));
-    };
-    if refusals::outside(h, 0, MOST_PERCENT) {
-        return CurrentAnswer::Refused(Refusal {
-            number: 12,
-            place: Place::Input(1),
-        });
-    }
-    if refusals::outside(r, 1, MOST_PERCENT) {
-        return CurrentAnswer::Refused(Refusal {
-            number: 12,
-            place: Place::Input(2),
-        });
-    }
-    if RATED * r < h * h {
-        return CurrentAnswer::Refused(Refusal {
-            number: 13,
-            place: Place::None,
-        });
-    }
-    CurrentAnswer::Current(certifying::largest_certified(rated, h, r, high_share(pair)))
-}
-
 // What an answer states.
 pub fn parts(answer: CurrentAnswer) -> Parts
     ensures { λ r. ⌜ r ≡ partsOf (statedCurrent answer) ⌝ }
@@ -86,11 +47,4 @@ pub fn parts(answer: CurrentAnswer) -> Parts
         CurrentAnswer::Current(amperes) => refusals::of_value(amperes),
         CurrentAnswer::Refused(refusal) => refusals::of_refusal(refusal),
     }
-}
-
-fn high_share(pair: Bounds) -> u64
-    requires { ⌜ Millionths pair ⌝ }
-    ensures { λ g. ⌜ g ≡ up (pair .high) ⌝ }
-{
-    pair.high as u64
 }

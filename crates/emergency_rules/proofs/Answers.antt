@@ -10,9 +10,9 @@ use lib.Signed.{_≤ℤ_}
 use Rattle.numbers.specs.Integer.{up}
 use Rattle.numbers.proofs.Integers.{le-lin}
 use Rattle.bounds.specs.declared.Bounds.{Bounds}
-use Rattle.refusals.specs.Ranges.{outside, _to_}
+use Rattle.ranges.specs.Ranges.{outside, _to_}
 use Rattle.refusals.specs.declared.Refusal.{Refusal}
-use Rattle.refusals.proofs.Ranges.{passed-within}
+use Rattle.ranges.proofs.Ranges.{passed-within}
 use Rattle.cable_rules.specs.Group.{Given}
 use Rattle.sheet_rules.specs.Sheet.{groupIn, asGivenIn, OnlyLaid}
 use Rattle.sheet_rules.specs.declared.TrenchCheck.{TrenchCheck}

@@ -10,7 +10,7 @@ use lib.IntN.{pos}
 use Rattle.exact.specs.Value.{fromOne}
 use Rattle.exact.specs.Share.{Accepted}
 use Rattle.bounds.specs.declared.Bounds.{Bounds}
-use Rattle.refusals.specs.Ranges.{outside, _to_}
+use Rattle.ranges.specs.Ranges.{outside, _to_}
 use Rattle.refusals.specs.Stated.{statedValues}
 use Rattle.refusals.proofs.Stated.{same-values, no-values}
 use Rattle.cable_rules.specs.Group.{Group, Given}

@@ -7,8 +7,7 @@ ghost use Rattle.cycle_rules.specs.Day.{dayHours, highestLoad, squaredLoads};
 ghost use Rattle.cycle_rules.specs.Heating.{heatingHours, relativeLoad, gatheredLoad, heatingBounds, referenceHour};
 ghost use Rattle.cycle_rules.specs.Asked.{Shared, AtHour, DivisorOf, pairsOf, mostDivisor, mostSum};
 use bounds::Bounds;
-
-pub const DAY_HOURS: usize = 24;
+use cycle_rules::DAY_HOURS;
 
 // The hours with a share of their own; those before them count by the mean.
 pub const HEATING_HOURS: usize = 6;

@@ -38,11 +38,11 @@ fn reader_rise(sheet: &[u8], trench: Trench, first: LoadRecord) -> RiseAnswer
     requires { ⌜ Begins (now sheet) trench first ⌝ }
     ensures { λ r. ⌜ RiseSaid (historyOf (now (sheet .entry))) r ⌝ }
 {
-    let mut at = walk::begin(first);
+    let mut at = heat::begin(first);
     loop {
         let last = at.last;
         if last.next == 0 {
-            break RiseAnswer::Rise(walk::end(trench.cable, at));
+            break RiseAnswer::Rise(heat::end(trench.cable, at));
         }
         let turn = walk::step(sheet, trench, at, reader::record_read(sheet, last.next));
         match turn {

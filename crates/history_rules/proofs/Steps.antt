@@ -2,7 +2,7 @@
 use mathlib.Core.Path.{_≡_}
 use mathlib.Core.List.{List, [], _∷_, map}
 use Prim.Native.Nat.{ℕ, suc, _≤_}
-use Rattle.refusals.proofs.Ranges.{passed-within}
+use Rattle.ranges.proofs.Ranges.{passed-within}
 use Rattle.sheet_rules.specs.Records.{mostMinutes, origin, recordAt, checkedRecord}
 use Rattle.sheet_rules.specs.Walk as W
 use Rattle.sheet_rules.specs.Walk.{Walk, reached, recordsIn}

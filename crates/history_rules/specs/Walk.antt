@@ -6,7 +6,7 @@ use Prim.Native.Nat.{ℕ, _+_, _*_, _-_, _≤_}
 use Rattle.bounds.specs.Operations.{addB, dividedB}
 use Rattle.bounds.specs.Promises.{Sized}
 use Rattle.bounds.specs.declared.Bounds.{Bounds}
-use Rattle.refusals.specs.Ranges.{outside, _to_}
+use Rattle.ranges.specs.Ranges.{outside, _to_}
 use Rattle.cable_rules.specs.declared.Cable.{Cable}
 use Rattle.share_rules.specs.Answer as share
 use Rattle.sheet_rules.specs.Header.{mostAmperes}

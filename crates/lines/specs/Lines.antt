@@ -46,6 +46,10 @@ answerLine word p =
 abbrev pub lineOf : {Answer : Type 0} → List ℕ → (Answer → Stated) → Answer → List ℕ
 lineOf word stated answer = answerLine word (partsOf (stated answer))
 
+-- "rise", the word of `rise` and of `rating rise`
+abbrev pub riseWord : List ℕ
+riseWord = 114 ∷ 105 ∷ 115 ∷ 101 ∷ []
+
 -- What is written in a line, which has room for it.
 pub record Says (line : Line) (text : List ℕ) : Type 0 where
   pub says : written line ≡ text

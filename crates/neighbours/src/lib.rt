@@ -79,7 +79,7 @@ pub fn check_neighbour(cable: Cable, before: LoadRecord, read: RecordRead) -> Re
     if MOST_OFFSET < aside(record.minutes) {
         return refused_at(15, record.number);
     }
-    if refusals::outside(record.amperes, LEAST_DEPTH, MOST_DEPTH) {
+    if ranges::outside(record.amperes, LEAST_DEPTH, MOST_DEPTH) {
         return refused_at(15, record.number);
     }
     if TENTHS * near_of(cable.depth, record) < numbers::square(cable.diameter) {

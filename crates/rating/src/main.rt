@@ -4,7 +4,7 @@ ghost use Rattle.text.specs.Writing.{lineRoom};
 
 mod file;
 
-use answers::Asked;
+use asked::Asked;
 use report::Input;
 use text::Line;
 use words::Command;
@@ -39,7 +39,7 @@ fn command_given() -> Command {
 // A calculation of the cable whose numbers follow the command, or of the sheet in a file that is named first.
 fn calculate(words: usize, command: Command) {
     let named = file::names_file(words);
-    let given = words::read(words, named, answers::wanted(asked_by(command), named));
+    let given = words::read(words, named, asked::wanted(asked_by(command), named));
     let fault = given.fault;
     let Fault::None = fault else {
         guide::complain(command, named, fault);

@@ -76,7 +76,7 @@ pub fn check_record(before: LoadRecord, read: RecordRead) -> RecordCheck
     let RecordRead::Held(record) = read else {
         return refused_at(5, before.number);
     };
-    if refusals::outside(record.minutes, LEAST_MINUTES, MOST_MINUTES) {
+    if ranges::outside(record.minutes, LEAST_MINUTES, MOST_MINUTES) {
         return refused_at(6, record.number);
     }
     if MOST_AMPERES < record.amperes {

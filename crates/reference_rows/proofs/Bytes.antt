@@ -9,8 +9,9 @@ use borrow.Author.Tests.{lt-ltb, le-ltb, le-leb, lt-leb}
 use lib.ListN.{length, set, length-set}
 use lib.Seq.{length-take-le, getD-set-same, getD-set-other}
 use Rattle.text.specs.declared.Number.the-variants.{Whole}
+use Rattle.cycle_rules.specs.Day.{dayHours}
 use Rattle.reference_rows.specs.Cells.{partAt, numberFrom}
-use Rattle.reference_rows.specs.Inputs.{noDigit, noByte, digitOf, byteOf, byteAt, sheetRoom, BytesTo, SheetOf, comma, dayHours, HoursTo}
+use Rattle.reference_rows.specs.Inputs.{noDigit, noByte, digitOf, byteOf, byteAt, sheetRoom, BytesTo, SheetOf, comma, HoursTo}
 
 module _ (b : ℕ) where
   pub below-0 : b < 48 → noDigit ≡ digitOf b

@@ -7,6 +7,7 @@ use lib.Dec.{leb, ltb}
 use lib.ListN.{length, getD}
 use Rattle.io.specs.Counts.{Counts}
 use Rattle.text.specs.declared.Number.the-variants.{Whole}
+use Rattle.cycle_rules.specs.Day.{dayHours}
 use Rattle.reference_rows.specs.Cells.{partAt, numberFrom}
 use Rattle.reference_rows.specs.declared.inputs.Day.{Day}
 use Rattle.reference_rows.specs.declared.inputs.Sheet.{Sheet}
@@ -52,9 +53,6 @@ comma = 44
 
 abbrev pub hoursName : List ℕ
 hoursName = 104 ∷ 111 ∷ 117 ∷ 114 ∷ 115 ∷ []
-
-abbrev pub dayHours : ℕ
-dayHours = 24
 
 -- The first `done` numbers of a list.
 pub record HoursTo (done : ℕ) (list hours : List ℕ) : Type 0 where

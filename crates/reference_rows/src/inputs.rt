@@ -5,9 +5,8 @@ ghost use lib.ListN.{length};
 ghost use Rattle.reference_rows.specs.Cells.{valueIn};
 ghost use Rattle.reference_rows.specs.Inputs.{digitOf, byteOf, byteAt, sheetName, SheetOf, hoursName, DayOf};
 use crate::cells;
+use cycle_rules::DAY_HOURS;
 use text::Number;
-
-const DAY_HOURS: usize = 24;
 
 // In A: the largest load that 16 bits hold.
 const MOST_HOUR: u32 = 65535;

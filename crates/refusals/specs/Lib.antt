@@ -1,4 +1,3 @@
-pub mod Ranges
 pub mod Stated
 pub mod Apart
 pub mod Examples

@@ -1,8 +1,5 @@
-// What a refusal is: its number and its place. And the ranges that inputs are held to, with the first input outside its range.
+// What a refusal is: its number and its place; and what an answer states, taken apart and put together.
 ghost use mathlib.Core.Path.{_≡_};
-ghost use Prim.Native.Nat.{_≤_};
-ghost use lib.ListN.{length};
-ghost use Rattle.refusals.specs.Ranges.{_to_, outside, rangesOf, firstOutside};
 ghost use mathlib.Core.List.{[], _∷_};
 ghost use lib.IntN.{pos};
 ghost use Rattle.refusals.specs.Stated.{placeKind, placeNumber, kindNumber, statedValues, statedRefusal};
@@ -128,27 +125,4 @@ fn place_of(kind: u8, number: u8) -> Place
         return Place::Input(number);
     }
     Place::None
-}
-
-// Whether x lies outside low to high.
-pub fn outside(x: u32, low: u32, high: u32) -> bool
-    ensures { λ r. ⌜ r ≡ outside (low to high) x ⌝ }
-{
-    x < low || high < x
-}
-
-// The number of the first value outside its range, counted from 1, or 0; a range is its least and its greatest value.
-pub fn first_outside(values: &[u32], ranges: &[[u32; 2]]) -> u8
-    requires { ⌜ (length (now ranges) ≡ length (now values)) × (length (now values) ≤ 255) ⌝ }
-    ensures { λ r. ⌜ r ≡ firstOutside 1 (rangesOf (now (ranges .entry))) (now (values .entry)) ⌝ }
-{
-    let mut i = 0;
-    while i < values.len() {
-        let range = ranges[i];
-        if outside(values[i], range[0], range[1]) {
-            return (i + 1) as u8;
-        }
-        i += 1;
-    }
-    0
 }

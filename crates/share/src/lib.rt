@@ -45,7 +45,7 @@ pub fn share_of(sheet: &[u8], trench: Trench, minutes: u32) -> ShareAnswer
     requires { ⌜ Laid (now sheet) trench ⌝ }
     ensures { λ r. ⌜ r ≡ shareFrom (groupIn (now (sheet .entry)) trench) minutes ⌝ }
 {
-    if refusals::outside(minutes, 1, MOST_MINUTES) {
+    if ranges::outside(minutes, 1, MOST_MINUTES) {
         return ShareAnswer::Refused(Refusal {
             number: 9,
             place: Place::None,

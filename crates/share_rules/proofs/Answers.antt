@@ -3,10 +3,10 @@ use mathlib.Core.Path.{_≡_, ap, _∙_}
 use mathlib.Core.Bool.{true, false}
 use Prim.Native.Nat.{ℕ}
 use Rattle.exact.specs.Share.{Accepted}
-use Rattle.refusals.specs.Ranges.{outside, _to_}
+use Rattle.ranges.specs.Ranges.{outside, _to_}
 use Rattle.refusals.specs.Apart.{partsOf, refusalIn}
 use Rattle.refusals.specs.declared.Refusal.{Refusal}
-use Rattle.refusals.proofs.Ranges.{passed-within}
+use Rattle.ranges.proofs.Ranges.{passed-within}
 use Rattle.refusals.proofs.Apart.{refusal-back}
 use Rattle.cable_rules.specs.Group.{Group, Given, refused}
 use Rattle.cable_rules.specs.InRange.{numbersIn, Acceptable}

@@ -15,7 +15,7 @@ use Rattle.exact.proofs.SignedShare.{share-plain, millionthOrder, millionth-bou
 use Rattle.exact.proofs.Pairs.{millionths-most, millionths-least}
 use Rattle.bounds.specs.Pair.{Pair, asBounds}
 use Rattle.bounds.specs.declared.Bounds.{Bounds}
-use Rattle.refusals.specs.Ranges.{outside, _to_}
+use Rattle.ranges.specs.Ranges.{outside, _to_}
 use Rattle.refusals.specs.Stated.{statedValues}
 use Rattle.refusals.proofs.Stated.{same-values, no-values}
 use Rattle.cable_rules.specs.Checks.{inUse}

@@ -11,9 +11,9 @@ use lib.IntN.{natAbs}
 use lib.ListN.{length}
 use Rattle.exact.specs.Share.{CableNumbers, between, sourceOf, InTrench, AllInTrench}
 use Rattle.exact.specs.Share as exact
-use Rattle.refusals.specs.Ranges.{outside, _to_}
+use Rattle.ranges.specs.Ranges.{outside, _to_}
 use Rattle.refusals.specs.declared.Refusal.{Refusal}
-use Rattle.refusals.proofs.Ranges.{neither, passed-within}
+use Rattle.ranges.proofs.Ranges.{neither, passed-within}
 use Rattle.sheet_rules.specs.Layout.{mostRecords, recordCount, wrongLength}
 use Rattle.sheet_rules.specs.Records.{recordAt, recordOf, origin, refusedAt}
 use Rattle.sheet_rules.specs.Neighbours.{neighbourOf, mostOffset, leastDepth, mostDepth, outOfTrench, tooNear, checkedNeighbour, above, neighbourWalk, neighboursIn}

@@ -7,7 +7,7 @@ use native.Mathlib.Omega.{arith}
 use borrow.Author.Tests.{lt-ltb, le-ltb, le-leb, lt-leb, eq-eqb, ne-eqb, ltb-false, leb-false}
 use lib.Dec.{leb, ltb}
 use lib.ListN.{length}
-use Rattle.refusals.specs.Ranges.{outside, _to_}
+use Rattle.ranges.specs.Ranges.{outside, _to_}
 use Rattle.refusals.specs.declared.Refusal.{Refusal}
 use Rattle.sheet_rules.specs.Layout.{recordCount, wrongLength}
 use Rattle.sheet_rules.specs.Header.{mostAmperes}

@@ -5,7 +5,7 @@ use Prim.Native.Nat.{ℕ, _+_, _*_, _≤_}
 use native.Mathlib.Omega.{arith}
 use borrow.Author.Tests.{ltb-false, eqb-true, not-false}
 use lib.Dec.{eqb, ltb}
-use Rattle.refusals.proofs.Ranges.{neither}
+use Rattle.ranges.proofs.Ranges.{neither}
 use Rattle.sheet_rules.specs.Layout.{shortHeader, longHeader, recordLength, mostRecords, isLong, headerLength, recordCount, wrongLength}
 
 pub record RightLength (size : ℕ) : Type 0 where

@@ -5,7 +5,7 @@ use Prim.Native.Nat.{ℕ, suc, _*_, _-_}
 use lib.Dec.{leb, ltb}
 use lib.IntN.{ℤ, pos, negsuc, natAbs}
 use Rattle.exact.specs.Share.{Neighbour, sourceOf}
-use Rattle.refusals.specs.Ranges.{outside, _to_}
+use Rattle.ranges.specs.Ranges.{outside, _to_}
 use Rattle.sheet_rules.specs.Layout.{mostRecords}
 use Rattle.sheet_rules.specs.Header.{cableOf, secondLink}
 use Rattle.sheet_rules.specs.Records.{refusedAt}

@@ -4,7 +4,7 @@ use mathlib.Core.List.{List}
 use Prim.Native.Nat.{ℕ, suc, _+_}
 use lib.Dec.{eqb, leb, ltb}
 use lib.ListN.{length}
-use Rattle.refusals.specs.Ranges.{outside, _to_}
+use Rattle.ranges.specs.Ranges.{outside, _to_}
 use Rattle.refusals.specs.declared.Place.the-variants as P
 use Rattle.sheet_rules.specs.BigEndian.{bigEndian}
 use Rattle.sheet_rules.specs.Layout.{recordStart, recordCount, wrongLength}

@@ -1,15 +1,9 @@
-// The walk along the load chain, turn by turn: where it begins, one turn, and the rise at its end. Document 01, 'The load sheet'; document 02, note 2.
+// One turn of the walk along the load chain. Document 01, 'The load sheet'; document 02, note 2.
 ghost use mathlib.Core.Path.{_≡_};
-ghost use Prim.Native.Nat.{_≤_};
-ghost use Rattle.bounds.specs.Operations.{pointB};
 ghost use Rattle.share_rules.specs.Pair.{sharePair};
-ghost use Rattle.sheet_rules.specs.Header.{mostAmperes};
 ghost use Rattle.sheet_rules.specs.Sheet.{groupIn};
-ghost use Rattle.history_rules.specs.Rise.{changeOf};
-ghost use Rattle.history_rules.specs.Walk.{Turning, Ending, StepTo, beginAt, nextAt, turnOf, endOf};
+ghost use Rattle.history_rules.specs.Walk.{Turning, StepTo, nextAt, turnOf};
 ghost use Rattle.history_rules.specs.declared.Turn.the-variants.{Next};
-use bounds::Bounds;
-use cable_rules::Cable;
 use history_rules::Reached;
 use history_rules::Turn;
 use share_rules::ShareAnswer;
@@ -17,18 +11,6 @@ use sheet_rules::LoadRecord;
 use sheet_rules::RecordCheck;
 use sheet_rules::RecordRead;
 use sheet_rules::Trench;
-
-// The whole of a share, in millionths.
-const MILLION: u64 = 1000000;
-
-// Before the first step: the starting current's part of the sum is its square, in millionths.
-pub fn begin(first: LoadRecord) -> Reached
-    requires { ⌜ first .amperes ≤ mostAmperes ⌝ }
-    ensures { λ r. ⌜ r ≡ beginAt first ⌝ }
-{
-    let sum = Bounds::whole(numbers::square(first.amperes) * MILLION);
-    Reached { last: first, sum }
-}
 
 // One turn of the walk: what was read at the link is checked, and the change of its step times its share is added; or its refusal is handed out.
 pub fn step(sheet: &[u8], trench: Trench, at: Reached, read: RecordRead) -> Turn
@@ -56,23 +38,6 @@ fn step_to(sheet: &[u8], trench: Trench, at: Reached, next: LoadRecord) -> Turn
     let sum = at.sum;
     Turn::Next(Reached {
         last: next,
-        sum: sum.add(change(last.amperes, next.amperes).mul(pair)),
+        sum: sum.add(heat::change(last.amperes, next.amperes).mul(pair)),
     })
-}
-
-// The rise, once the chain has ended: one division, by the squared rated current.
-pub fn end(used: Cable, at: Reached) -> Bounds
-    requires { ⌜ Ending used at ⌝ }
-    ensures { λ r. ⌜ r ≡ endOf used at ⌝ }
-{
-    let sum = at.sum;
-    sum.divided(numbers::square(used.rated))
-}
-
-// The signed change of the squared current at a step.
-fn change(previous: u32, amperes: u32) -> Bounds
-    requires { ⌜ (previous ≤ mostAmperes) × (amperes ≤ mostAmperes) ⌝ }
-    ensures { λ r. ⌜ r ≡ pointB (changeOf previous amperes) ⌝ }
-{
-    Bounds::whole(numbers::square(amperes)).add(Bounds::whole(numbers::square(previous)).neg())
 }

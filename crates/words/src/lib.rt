@@ -4,6 +4,7 @@ ghost use Prim.Native.Nat.{_≤_};
 ghost use Rattle.words.specs.Words.{afterFile, firstNumber, numbersRoom, ReadSaid};
 pub use commands::Command;
 pub use commands::command_of;
+use cycle_rules::DAY_HOURS;
 use text::Number;
 
 // The program's own name and the command stand before the first number, or before the name of a file.
@@ -15,8 +16,6 @@ pub const AFTER_FILE: usize = AFTER_COMMAND + 1;
 pub const MOST: u32 = 4294967295;
 
 pub const CABLE_FIELDS: usize = 8;
-
-pub const DAY_HOURS: usize = 24;
 
 // Room for a cable and its hours, the most that a calculation takes.
 pub const ROOM: usize = CABLE_FIELDS + DAY_HOURS;

@@ -3,8 +3,8 @@ use mathlib.Core.Path.{_≡_}
 use mathlib.Core.Logic.{⊎-elim}
 use native.Mathlib.Omega.{arith}
 use borrow.Author.Needs.{needs}
-use Rattle.refusals.specs.Ranges.{_to_, orZero, outside}
-use Rattle.refusals.proofs.Ranges.{or-zero-least, or-zero-other}
+use Rattle.ranges.specs.Ranges.{_to_, orZero, outside}
+use Rattle.ranges.proofs.Ranges.{or-zero-least, or-zero-other}
 use Rattle.cable_rules.specs.Checks.{outsideField}
 use Rattle.cable.proofs.outside_field.Statement.{statement}
 use Rattle.cable.proofs.outside_field.Tie as tie

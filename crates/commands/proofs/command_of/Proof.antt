@@ -3,7 +3,7 @@ use mathlib.Core.Path.{_≡_, refl, sym, _∙_}
 use mathlib.Core.Bool.{false}
 use borrow.Author.Needs.{needs}
 use Rattle.text.specs.Reading.{sameBytes}
-use Rattle.report.specs.Lines.{riseWord}
+use Rattle.lines.specs.Lines.{riseWord}
 use Rattle.commands.specs.Names.{shareWord, factorWord, currentWord, explainWord, asksHelp, asksVersion, commandOf}
 use Rattle.commands.proofs.command_of.Statement.{statement}
 use Rattle.commands.proofs.command_of.Tie as tie

@@ -4,8 +4,8 @@ use mathlib.Core.Bool.{false}
 use Prim.Native.Nat.{_≤_}
 use native.Mathlib.Omega.{arith}
 use lib.IntN.{natAbs}
-use Rattle.refusals.specs.Ranges.{outside, _to_}
-use Rattle.refusals.proofs.Ranges.{passed-within}
+use Rattle.ranges.specs.Ranges.{outside, _to_}
+use Rattle.ranges.proofs.Ranges.{passed-within}
 use Rattle.sheet_rules.specs.Neighbours.{neighbourOf, mostOffset, leastDepth, mostDepth}
 use Rattle.sheet_rules.proofs.NeighbourChecks.{link-missing, link-not-above, offset-refused, depth-refused, near-refused, neighbour-accepted, near-most}
 use borrow.Author.Needs.{needs}

@@ -2,7 +2,7 @@
 use mathlib.Core.Path.{_≡_, sym, _∙_}
 use mathlib.Core.Bool.{false}
 use borrow.Author.Needs.{needs}
-use Rattle.refusals.specs.Ranges.{outside, _to_}
+use Rattle.ranges.specs.Ranges.{outside, _to_}
 use Rattle.sheet_rules.specs.Records.{leastMinutes, mostMinutes}
 use Rattle.sheet_rules.proofs.RecordChecks.{link-refused, minutes-refused, amperes-refused, order-refused, record-accepted}
 use Rattle.records.proofs.check_record.Statement.{statement}

@@ -7,7 +7,7 @@ use borrow.Author.Tests.{eq-eqb, ne-eqb, lt-ltb, le-ltb}
 use lib.IntN.{pos}
 use Rattle.bounds.specs.Operations.{pointB}
 use Rattle.cable_rules.specs.declared.Cable.{Cable}
-use Rattle.refusals.specs.Ranges.{outside, _to_}
+use Rattle.ranges.specs.Ranges.{outside, _to_}
 use Rattle.cable_rules.specs.Group.{Group, Given, accepted, refused, givenCable}
 use Rattle.share_rules.specs.Pair.{sharePair}
 use Rattle.share_rules.specs.Answer.{mostMinutes, refused9, shareFrom, shareAnswer}
