@@ -5,12 +5,11 @@ use mathlib.Core.List.{List}
 use Prim.Native.Nat.{ℕ, zero, suc, _+_, _≤_, _<_}
 use native.Mathlib.Nat.{le-refl}
 use native.Mathlib.Omega.{arith}
-use borrow.Author.Count.{below-more}
 use lib.Dec.{ltb}
 use borrow.Author.Tests.{ltb-true, ltb-false}
 use lib.IntN.{ℤ, pos}
 use lib.ListN.{length, set, length-set, List·getD-eq-default}
-use lib.Seq.{getD-set-same, getD-set-other}
+use Rattle.numbers.proofs.Filling.{one-more}
 use Rattle.bounds.specs.Operations.{pointB}
 use Rattle.bounds.specs.Promises.{Sized}
 use Rattle.bounds.specs.declared.Bounds.{Bounds}
@@ -31,12 +30,10 @@ none-filled e = record { six = e; filled = λ j h. absurd (omega arith) }
 
 pub next-filled : {g : Group} {shares : List Bounds} {i : ℕ} {p : Bounds} → Filled g shares i → i < heatingHours → p ≡ hourPair g (suc i) → Filled g (set shares i p) (i + 1)
 next-filled {g} {shares} {i} {p} f h e =
-    let none = pointB (pos 0) in
     record {
       six = length-set shares i p ∙ f .six;
       filled =
-          below-more (λ j. pairsOf (set shares i p) (suc j) ≡ hourPair g (suc j)) i (λ j l. getD-set-other shares i j p none (λ q. omega arith) ∙ f .filled j l)
-          (getD-set-same shares i p none (omega (arith, f .six)) ∙ e);
+          one-more (λ j pair. pair ≡ hourPair g (suc j)) (pointB (pos 0)) shares i p (omega (arith, f .six)) e (f .filled);
     }
 
 -- ---- the sums

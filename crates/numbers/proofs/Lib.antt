@@ -11,3 +11,4 @@ pub mod Rounding
 pub mod Machine
 pub mod SignedIntegers
 pub mod Largest
+pub mod Filling

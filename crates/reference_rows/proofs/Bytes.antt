@@ -1,13 +1,12 @@
 -- Laws of hexadecimal digits, of the bytes of a sheet so far, and of the hours of a day so far.
 use mathlib.Core.Path.{_≡_, refl, ap, sym, _∙_}
 use mathlib.Core.List.{List}
-use mathlib.Core.Logic.{⊎-elim}
 use Prim.Native.Nat.{ℕ, _+_, _-_, _*_, _≤_, _<_}
-use native.Mathlib.Nat.{eq-or-lt-of-le}
 use native.Mathlib.Omega.{arith}
 use borrow.Author.Tests.{lt-ltb, le-ltb, le-leb, lt-leb}
 use lib.ListN.{length, set, length-set}
-use lib.Seq.{length-take-le, getD-set-same, getD-set-other}
+use lib.Seq.{length-take-le}
+use Rattle.numbers.proofs.Filling.{one-more}
 use Rattle.text.specs.declared.Number.the-variants.{Whole}
 use Rattle.cycle_rules.specs.Day.{dayHours}
 use Rattle.reference_rows.specs.Cells.{partAt, numberFrom}
@@ -48,16 +47,11 @@ module _ (hex bytes : List ℕ) where
   pub no-sheet : length bytes ≡ sheetRoom → SheetOf hex (record { bytes = bytes; length = 0 })
   no-sheet e = record { counts = (omega arith, refl); all = λ h. absurd (omega arith); bytes = record { room = e; each = λ j h. absurd (omega arith) } }
 
-  pub one-more : (k x : ℕ) → k < sheetRoom → x ≡ byteAt hex k → BytesTo k hex bytes → BytesTo (k + 1) hex (set bytes k x)
-  one-more k x below e so-far =
+  pub byte-more : (k x : ℕ) → k < sheetRoom → x ≡ byteAt hex k → BytesTo k hex bytes → BytesTo (k + 1) hex (set bytes k x)
+  byte-more k x below e so-far =
       record {
         room = length-set bytes k x ∙ so-far .room;
-        each =
-            λ j h.
-            ⊎-elim
-            (λ w. rw (w, getD-set-same bytes k x 0 (omega (arith, below, so-far .room)), e) refl)
-            (λ w. getD-set-other bytes k j x 0 (λ q. absurd (omega (arith, q, w))) ∙ so-far .each j w)
-            (eq-or-lt-of-le (omega (arith, h)));
+        each = one-more (λ j y. y ≡ byteAt hex j) 0 bytes k x (omega (arith, below, so-far .room)) e (so-far .each);
       }
 
   pub whole-sheet : (k n : ℕ) → BytesTo k hex bytes → k ≡ n → n ≤ sheetRoom → length hex ≡ 2 * n → SheetOf hex (record { bytes = bytes; length = n })
@@ -69,10 +63,5 @@ pub hour-more : (list hours : List ℕ) (k x : ℕ) → k < dayHours → Whole x
 hour-more list hours k x below e so-far =
     record {
       many = length-set hours k x ∙ so-far .many;
-      each =
-          λ j h.
-          ⊎-elim
-          (λ w. rw (w, getD-set-same hours k x 0 (omega (arith, below, so-far .many))) e)
-          (λ w. rw (getD-set-other hours k j x 0 (λ q. absurd (omega (arith, q, w)))) (so-far .each j w))
-          (eq-or-lt-of-le {n = j} {m = k} (omega (arith, h)));
+      each = one-more (λ j y. Whole y ≡ numberFrom (partAt comma j list)) 0 hours k x (omega (arith, below, so-far .many)) e (so-far .each);
     }

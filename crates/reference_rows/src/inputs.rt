@@ -8,9 +8,6 @@ use crate::cells;
 use cycle_rules::DAY_HOURS;
 use text::Number;
 
-// In A: the largest load that 16 bits hold.
-const MOST_HOUR: u32 = 65535;
-
 // The amperes of a day, and whether all of them could be read.
 pub struct Day {
     pub hours: [u16; DAY_HOURS],
@@ -36,7 +33,7 @@ fn day_of(list: &[u8]) -> Day
                 whole: false,
             };
         };
-        if MOST_HOUR < amperes {
+        if amperes > u16::MAX as u32 {
             return Day {
                 hours,
                 whole: false,

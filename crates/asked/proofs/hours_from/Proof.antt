@@ -1,27 +1,20 @@
 -- The loop's invariant: the hours so far are those of the numbers. The measure is what is left of the day.
 use mathlib.Core.Path.{_≡_, refl, _∙_}
 use mathlib.Core.List.{List}
-use mathlib.Core.Logic.{⊎-elim}
 use Prim.Native.Nat.{ℕ, _+_, _-_, _≤_, _<_, min}
-use native.Mathlib.Nat.{eq-or-lt-of-le}
 use lib.ListN.{getD, set, length-set}
-use lib.Seq.{getD-set-same, getD-set-other}
 use native.Mathlib.Omega.{arith}
 use borrow.Author.Needs.{needs}
+use Rattle.numbers.proofs.Filling.{one-more}
 use Rattle.asked.specs.Hours.{mostHour, HoursTo}
 use Rattle.asked.proofs.hours_from.Statement.{statement}
 use Rattle.asked.proofs.hours_from.Tie as tie
 
-one-more : (from k : ℕ) (values hours : List ℕ) (x : ℕ) → k < 24 → x ≡ min (getD values (from + k) 0) mostHour → HoursTo from k values hours → HoursTo from (k + 1) values (set hours k x)
-one-more from k values hours x below e so-far =
+hour-more : (from k : ℕ) (values hours : List ℕ) (x : ℕ) → k < 24 → x ≡ min (getD values (from + k) 0) mostHour → HoursTo from k values hours → HoursTo from (k + 1) values (set hours k x)
+hour-more from k values hours x below e so-far =
     record {
       many = length-set hours k x ∙ so-far .many;
-      each =
-          λ j h.
-          ⊎-elim
-          (λ w. rw (w, getD-set-same hours k x 0 (omega (arith, below, so-far .many)), e) refl)
-          (λ w. getD-set-other hours k j x 0 (λ q. absurd (omega (arith, q, w))) ∙ so-far .each j w)
-          (eq-or-lt-of-le (omega (arith, h)));
+      each = one-more (λ j y. y ≡ min (getD values (from + j) 0) mostHour) 0 hours k x (omega (arith, below, so-far .many)) e (so-far .each);
     }
 
 abbrev Inv-loop : tie.InvT-loop
@@ -60,7 +53,7 @@ loop-less c = search needs
 loop-again : tie.Need-loop-again Inv-loop μ-loop
 loop-again c =
     let v = c .before .before .loop in
-    (omega arith, one-more (c .before .before .before .args .from) (v .k) (c .before .before .before .args .t1) (v .hours) (c .narrowed .result) (omega arith) (c .narrowed .ensures) (v .inv .1))
+    (omega arith, hour-more (c .before .before .before .args .from) (v .k) (c .before .before .before .args .t1) (v .hours) (c .narrowed .result) (omega arith) (c .narrowed .ensures) (v .inv .1))
 
 returns : tie.Need-returns Inv-loop μ-loop
 returns c =

@@ -4,7 +4,7 @@ use Prim.Native.Nat.{_-_, _≤_}
 use native.Mathlib.Omega.{arith}
 use borrow.Author.Needs.{needs}
 use Rattle.reference_rows.specs.Inputs.{BytesTo}
-use Rattle.reference_rows.proofs.Bytes.{no-sheet, one-more, whole-sheet}
+use Rattle.reference_rows.proofs.Bytes.{no-sheet, byte-more, whole-sheet}
 use Rattle.reference_rows.proofs.inputs.bytes_of.Statement.{statement}
 use Rattle.reference_rows.proofs.inputs.bytes_of.Tie as tie
 
@@ -42,7 +42,7 @@ loop-less : tie.Need-loop-less Inv-loop μ-loop
 loop-less c = search needs
 
 loop-again : tie.Need-loop-again Inv-loop μ-loop
-loop-again c = let l = c .before .before .before .loop in (omega arith, one-more _ _ (l .k) (c .before .byte-at .result) (omega arith) (c .before .byte-at .ensures) (l .inv .1))
+loop-again c = let l = c .before .before .before .loop in (omega arith, byte-more _ _ (l .k) (c .before .byte-at .result) (omega arith) (c .before .byte-at .ensures) (l .inv .1))
 
 returns-4 : tie.Need-returns-4 Inv-loop μ-loop
 returns-4 c = whole-sheet _ _ (c .before .loop .k) _ (c .before .loop .inv .1) (omega arith) (omega arith) (omega arith)

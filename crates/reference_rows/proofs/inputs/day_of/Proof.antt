@@ -40,6 +40,9 @@ enum-told c = search needs
 returns : tie.Need-returns Inv-loop μ-loop
 returns c = λ e. absurd (never e)
 
+cast-if1 : tie.Need-cast-if1 Inv-loop μ-loop
+cast-if1 c = search needs
+
 returns-2 : tie.Need-returns-2 Inv-loop μ-loop
 returns-2 c = λ e. absurd (never e)
 
@@ -81,6 +84,7 @@ day-of-spec =
     enum-known-amperes
     enum-told
     returns
+    cast-if1
     returns-2
     cast-hours
     mul-hours
