@@ -32,8 +32,7 @@ pub next-filled : {g : Group} {shares : List Bounds} {i : ℕ} {p : Bounds} → 
 next-filled {g} {shares} {i} {p} f h e =
     record {
       six = length-set shares i p ∙ f .six;
-      filled =
-          one-more (λ j pair. pair ≡ hourPair g (suc j)) (pointB (pos 0)) shares i p (omega (arith, f .six)) e (f .filled);
+      filled = one-more (λ j pair. pair ≡ hourPair g (suc j)) (pointB (pos 0)) shares i p (omega (arith, f .six)) e (f .filled);
     }
 
 -- ---- the sums

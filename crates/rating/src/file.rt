@@ -1,29 +1,7 @@
-// The file that the word after the command names: whether there is one, and the sheet in it.
+// The sheet in the file that the word after the command names.
 ghost use Rattle.report.specs.Reading.{Within};
 use report::Input;
-use text::Number;
 use words::AFTER_COMMAND;
-use words::MOST;
-
-// Whether the word after the command names a file: it is not all digits. Of a word that is longer than every path its start tells.
-pub fn names_file(words: usize) -> bool {
-    if words <= AFTER_COMMAND {
-        return false;
-    }
-    let mut word = io::buffer();
-    let length = os::arg(AFTER_COMMAND, &mut word);
-    if os::errno() != 0 {
-        return !of_digits(&word);
-    }
-    !of_digits(&word[..length])
-}
-
-fn of_digits(word: &[u8]) -> bool {
-    if let Number::Whole(_) = text::number_of(word, MOST) {
-        return true;
-    }
-    false
-}
 
 // Fills the buffer. Where the file cannot be read, that is told with the reason that the system gives.
 pub fn read_sheet(buffer: &mut [u8]) -> Input

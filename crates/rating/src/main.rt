@@ -7,6 +7,7 @@ mod file;
 use asked::Asked;
 use report::Input;
 use text::Line;
+use text::Number;
 use words::Command;
 use words::Fault;
 
@@ -38,7 +39,7 @@ fn command_given() -> Command {
 
 // A calculation of the cable whose numbers follow the command, or of the sheet in a file that is named first.
 fn calculate(words: usize, command: Command) {
-    let named = file::names_file(words);
+    let named = names_file(words);
     let given = words::read(words, named, asked::wanted(asked_by(command), named));
     let fault = given.fault;
     let Fault::None = fault else {
@@ -47,6 +48,26 @@ fn calculate(words: usize, command: Command) {
     };
     let values = given.values;
     answer(command, named, values);
+}
+
+// Whether the word after the command names a file: it is not all digits. Of a word that is longer than every path its start tells.
+fn names_file(words: usize) -> bool {
+    if words <= words::AFTER_COMMAND {
+        return false;
+    }
+    let mut word = io::buffer();
+    let length = os::arg(words::AFTER_COMMAND, &mut word);
+    if os::errno() != 0 {
+        return !of_digits(&word);
+    }
+    !of_digits(&word[..length])
+}
+
+fn of_digits(word: &[u8]) -> bool {
+    if let Number::Whole(_) = text::number_of(word, words::MOST) {
+        return true;
+    }
+    false
 }
 
 fn asked_by(command: Command) -> Asked {

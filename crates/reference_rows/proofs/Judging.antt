@@ -12,7 +12,7 @@ use mir.Val.{SFits}
 use mir.Facts.{toZ-ofZ}
 use Rattle.numbers.proofs.Machine.{seen}
 use Rattle.refusals.specs.declared.Parts.{Parts}
-use Rattle.reference_rows.specs.Results.{refuses, between, encloses, isShare}
+use Rattle.reference_rows.specs.Results.{refuses, between, encloses, isShare, isValue, inRanges, isShareOf}
 
 -- ---- a refusal
 
@@ -74,3 +74,27 @@ module _ (p : Parts) (g : SFits w64 (p .first)) (b : between (pos 0) (p .first) 
 
     pub by-width : ltZ (pos 1000000) (seen (p .second)) ≡ false → leZ (seen (p .second)) (seen (seen (p .first) +ℤ pos 50)) ≡ isShare p
     by-width l = rw (toZ-ofZ h, toZ-ofZ fifty-more, toZ-ofZ g, eq-eqb (p .count) 2 e, b, rw (toZ-ofZ h) at l)
+
+-- ---- one value
+
+pub between-seen : {least n most : ℤ} {r : Bool} → SFits w64 least → SFits w64 n → SFits w64 most → r ≡ between (seen least) (seen n) (seen most) → r ≡ between least n most
+between-seen f g h e = rw (toZ-ofZ f, toZ-ofZ g, toZ-ofZ h) at e
+
+module _ (p : Parts) (least most : ℤ) where
+  pub not-one : (p .count ≡ 1 → ⊥) → false ≡ isValue p least most
+  not-one n = rw (ne-eqb (p .count) 1 n)
+
+  pub by-value : {r : Bool} → p .count ≡ 1 → r ≡ between least (p .first) most → r ≡ isValue p least most
+  by-value e b = rw (eq-eqb (p .count) 1 e) b
+
+-- ---- what is judged, of numbers as a call sees them
+
+module _ (p : Parts) {r : Bool} where
+  pub value-seen : {least most : ℤ} → SFits w64 least → SFits w64 most → r ≡ isValue p (seen least) (seen most) → r ≡ isValue p least most
+  value-seen f g e = rw (toZ-ofZ f, toZ-ofZ g) at e
+
+  pub ranges-seen : {a b c d : ℤ} → SFits w64 a → SFits w64 b → SFits w64 c → SFits w64 d → r ≡ inRanges p (seen a) (seen b) (seen c) (seen d) → r ≡ inRanges p a b c d
+  ranges-seen f g h i e = rw (toZ-ofZ f, toZ-ofZ g, toZ-ofZ h, toZ-ofZ i) at e
+
+  pub share-of-seen : {floor : ℤ} (more : ℕ) → SFits w64 floor → r ≡ isShareOf p (seen floor) more → r ≡ isShareOf p floor more
+  share-of-seen more f e = rw (toZ-ofZ f) at e

@@ -20,3 +20,15 @@ encloses p floor more = cond (ltZ floor (p .first)) false (cond (eqb more 0) (le
 -- Two values, the first from 0 to a million millionths, and the second at most that and at most 50 above the first.
 abbrev pub isShare : Parts → Bool
 isShare p = cond (eqb (p .count) 2) (cond (between (pos 0) (p .first) (pos 1000000)) (cond (ltZ (pos 1000000) (p .second)) false (leZ (p .second) (p .first +ℤ pos 50))) false) false
+
+-- One value, from the least to the most.
+abbrev pub isValue : Parts → ℤ → ℤ → Bool
+isValue p least most = cond (eqb (p .count) 1) (between least (p .first) most) false
+
+-- A share, each end of it in its range.
+abbrev pub inRanges : Parts → ℤ → ℤ → ℤ → ℤ → Bool
+inRanges p lowLeast lowMost highLeast highMost = cond (isShare p) (cond (between lowLeast (p .first) lowMost) (between highLeast (p .second) highMost) false) false
+
+-- A share around the exact value.
+abbrev pub isShareOf : Parts → ℤ → ℕ → Bool
+isShareOf p floor more = cond (isShare p) (encloses p floor more) false

@@ -1,4 +1,7 @@
 // The answer to what a row asks, by the public call of its kind.
+ghost use mathlib.Core.Path.{_≡_};
+ghost use Rattle.reference_rows.specs.Kinds.{skips, kindOf};
+ghost use Rattle.reference_rows.specs.Answers.{OnlyRead, FromCable, FromSheet, ShareTo, FactorTo, CurrentTo, Answered, OnlySaid, AnswerTo};
 use crate::cells;
 use crate::inputs;
 use cable_rules::Cable;
@@ -17,7 +20,9 @@ pub enum Kind {
     Unknown,
 }
 
-pub fn kind_of(word: &[u8]) -> Kind {
+pub fn kind_of(word: &[u8]) -> Kind
+    ensures { λ r. ⌜ r ≡ kindOf (now (word .entry)) ⌝ }
+{
     if text::same(word, b"share") {
         return Kind::Share;
     }
@@ -36,10 +41,22 @@ pub fn kind_of(word: &[u8]) -> Kind {
     if text::same(word, b"current_in_sheet") {
         return Kind::CurrentInSheet;
     }
-    if text::same(word, b"kind") || text::same(word, b"rise") || text::same(word, b"program") {
+    if skips(word) {
         return Kind::Skipped;
     }
     Kind::Unknown
+}
+
+fn skips(word: &[u8]) -> bool
+    ensures { λ r. ⌜ r ≡ skips (now (word .entry)) ⌝ }
+{
+    if text::same(word, b"kind") {
+        return true;
+    }
+    if text::same(word, b"rise") {
+        return true;
+    }
+    text::same(word, b"program")
 }
 
 pub enum Answer {
@@ -47,7 +64,9 @@ pub enum Answer {
     Unreadable,
 }
 
-pub fn ask(kind: Kind, inputs: &[u8]) -> Answer {
+pub fn ask(kind: Kind, inputs: &[u8]) -> Answer
+    ensures { λ r. ⌜ AnswerTo kind (now (inputs .entry)) r ⌝ }
+{
     match kind {
         Kind::Share => share(inputs),
         Kind::Factor => factor(inputs),
@@ -55,11 +74,14 @@ pub fn ask(kind: Kind, inputs: &[u8]) -> Answer {
         Kind::ShareInSheet => share_in_sheet(inputs),
         Kind::FactorInSheet => factor_in_sheet(inputs),
         Kind::CurrentInSheet => current_in_sheet(inputs),
-        _ => Answer::Unreadable,
+        Kind::Skipped => Answer::Unreadable,
+        Kind::Unknown => Answer::Unreadable,
     }
 }
 
-fn share(inputs: &[u8]) -> Answer {
+fn share(inputs: &[u8]) -> Answer
+    ensures { λ r. ⌜ OnlySaid (Answered (FromCable (now (inputs .entry))) (ShareTo (now (inputs .entry)))) r ⌝ }
+{
     let CableRead::Read(cable) = cable_in(inputs) else {
         return Answer::Unreadable;
     };
@@ -69,7 +91,9 @@ fn share(inputs: &[u8]) -> Answer {
     Answer::Said(share::parts(share::share(cable, minutes)))
 }
 
-fn factor(inputs: &[u8]) -> Answer {
+fn factor(inputs: &[u8]) -> Answer
+    ensures { λ r. ⌜ OnlySaid (Answered (FromCable (now (inputs .entry))) (FactorTo (now (inputs .entry)))) r ⌝ }
+{
     let CableRead::Read(cable) = cable_in(inputs) else {
         return Answer::Unreadable;
     };
@@ -81,7 +105,9 @@ fn factor(inputs: &[u8]) -> Answer {
     Answer::Said(cycle::parts(cycle::factor(cable, hours)))
 }
 
-fn current(inputs: &[u8]) -> Answer {
+fn current(inputs: &[u8]) -> Answer
+    ensures { λ r. ⌜ OnlySaid (Answered (FromCable (now (inputs .entry))) (CurrentTo (now (inputs .entry)))) r ⌝ }
+{
     let CableRead::Read(cable) = cable_in(inputs) else {
         return Answer::Unreadable;
     };
@@ -97,7 +123,9 @@ fn current(inputs: &[u8]) -> Answer {
     Answer::Said(emergency::parts(emergency::current(cable, h, r, minutes)))
 }
 
-fn share_in_sheet(inputs: &[u8]) -> Answer {
+fn share_in_sheet(inputs: &[u8]) -> Answer
+    ensures { λ r. ⌜ OnlySaid (Answered (FromSheet (now (inputs .entry))) (ShareTo (now (inputs .entry)))) r ⌝ }
+{
     let sheet = inputs::sheet_in(inputs);
     let length = sheet.length;
     let bytes = sheet.bytes;
@@ -110,19 +138,26 @@ fn share_in_sheet(inputs: &[u8]) -> Answer {
     Answer::Said(share::parts(share::share_in_sheet(&bytes[..length], minutes)))
 }
 
-fn factor_in_sheet(inputs: &[u8]) -> Answer {
+fn factor_in_sheet(inputs: &[u8]) -> Answer
+    ensures { λ r. ⌜ OnlySaid (Answered (FromSheet (now (inputs .entry))) (FactorTo (now (inputs .entry)))) r ⌝ }
+{
     let sheet = inputs::sheet_in(inputs);
     let length = sheet.length;
     let bytes = sheet.bytes;
     let day = inputs::day_in(inputs);
-    if length == 0 || !day.whole {
+    if length == 0 {
+        return Answer::Unreadable;
+    }
+    if !day.whole {
         return Answer::Unreadable;
     }
     let hours = day.hours;
     Answer::Said(cycle::parts(cycle::factor_in_sheet(&bytes[..length], hours)))
 }
 
-fn current_in_sheet(inputs: &[u8]) -> Answer {
+fn current_in_sheet(inputs: &[u8]) -> Answer
+    ensures { λ r. ⌜ OnlySaid (Answered (FromSheet (now (inputs .entry))) (CurrentTo (now (inputs .entry)))) r ⌝ }
+{
     let sheet = inputs::sheet_in(inputs);
     let length = sheet.length;
     let bytes = sheet.bytes;
@@ -141,12 +176,14 @@ fn current_in_sheet(inputs: &[u8]) -> Answer {
     Answer::Said(emergency::parts(emergency::current_in_sheet(&bytes[..length], h, r, minutes)))
 }
 
-enum CableRead {
+pub enum CableRead {
     Read(Cable),
     Unreadable,
 }
 
-fn cable_in(cell: &[u8]) -> CableRead {
+fn cable_in(cell: &[u8]) -> CableRead
+    ensures { λ r. ⌜ OnlyRead (now (cell .entry)) r ⌝ }
+{
     let Number::Whole(diameter) = cells::number(cell, b"d") else {
         return CableRead::Unreadable;
     };

@@ -1,4 +1,6 @@
 // Whether an answer is one that a row's results allow.
+ghost use mathlib.Core.Path.{_≡_};
+ghost use Rattle.reference_rows.specs.Verdicts.{placed, byRefusal, byValue, byRanges, byExact, byResults, verdictOf};
 use crate::answers::Kind;
 use crate::cells;
 use crate::results;
@@ -13,11 +15,19 @@ pub enum Verdict {
 }
 
 // A row that names a refusal allows no values.
-pub fn judge(kind: Kind, results: &[u8], said: Parts) -> Verdict {
+pub fn judge(kind: Kind, results: &[u8], said: Parts) -> Verdict
+    ensures { λ r. ⌜ r ≡ verdictOf kind (now (results .entry)) said ⌝ }
+{
     let refused = cells::value(results, b"refused");
     if 0 < refused.len() {
         return refusal(refused, said);
     }
+    by_results(kind, results, said)
+}
+
+fn by_results(kind: Kind, results: &[u8], said: Parts) -> Verdict
+    ensures { λ r. ⌜ r ≡ byResults kind (now (results .entry)) said ⌝ }
+{
     match kind {
         Kind::Share => share_ranges(results, said),
         Kind::ShareInSheet => share_exact(results, said),
@@ -25,11 +35,14 @@ pub fn judge(kind: Kind, results: &[u8], said: Parts) -> Verdict {
         Kind::FactorInSheet => one_value(results, b"factor_min", b"factor_max", said),
         Kind::Current => one_value(results, b"i_rule_min", b"i_rule_max", said),
         Kind::CurrentInSheet => one_value(results, b"current_min", b"current_max", said),
-        _ => Verdict::Unreadable,
+        Kind::Skipped => Verdict::Unreadable,
+        Kind::Unknown => Verdict::Unreadable,
     }
 }
 
-fn placed(inside: bool) -> Verdict {
+fn placed(inside: bool) -> Verdict
+    ensures { λ r. ⌜ r ≡ placed inside ⌝ }
+{
     if inside {
         Verdict::Inside
     } else {
@@ -38,7 +51,9 @@ fn placed(inside: bool) -> Verdict {
 }
 
 // Of `NUMBER PLACE`.
-fn refusal(refused: &[u8], said: Parts) -> Verdict {
+fn refusal(refused: &[u8], said: Parts) -> Verdict
+    ensures { λ r. ⌜ r ≡ byRefusal (now (refused .entry)) said ⌝ }
+{
     let Number::Whole(number) = cells::whole(cells::part(refused, b' ', 0)) else {
         return Verdict::Unreadable;
     };
@@ -49,17 +64,21 @@ fn refusal(refused: &[u8], said: Parts) -> Verdict {
 }
 
 // A factor or a current, by the names of the least and the greatest that is allowed.
-fn one_value<'a>(results: &'a [u8], least: &'a [u8], most: &'a [u8], said: Parts) -> Verdict {
+fn one_value<'a>(results: &'a [u8], least: &'a [u8], most: &'a [u8], said: Parts) -> Verdict
+    ensures { λ r. ⌜ r ≡ byValue (now (least .entry)) (now (most .entry)) (now (results .entry)) said ⌝ }
+{
     let Signed::Integer(from) = cells::integer(results, least) else {
         return Verdict::Unreadable;
     };
     let Signed::Integer(to) = cells::integer(results, most) else {
         return Verdict::Unreadable;
     };
-    placed(said.count == 1 && results::between(from, said.first, to))
+    placed(results::is_value(said, from, to))
 }
 
-fn share_ranges(results: &[u8], said: Parts) -> Verdict {
+fn share_ranges(results: &[u8], said: Parts) -> Verdict
+    ensures { λ r. ⌜ r ≡ byRanges (now (results .entry)) said ⌝ }
+{
     let Signed::Integer(low_min) = cells::integer(results, b"low_min") else {
         return Verdict::Unreadable;
     };
@@ -72,15 +91,13 @@ fn share_ranges(results: &[u8], said: Parts) -> Verdict {
     let Signed::Integer(high_max) = cells::integer(results, b"high_max") else {
         return Verdict::Unreadable;
     };
-    placed(
-        results::is_share(said)
-            && results::between(low_min, said.first, low_max)
-            && results::between(high_min, said.second, high_max),
-    )
+    placed(results::in_ranges(said, low_min, low_max, high_min, high_max))
 }
 
 // By the exact share, since the ranges beside it are for pairs at most 20 apart.
-fn share_exact(results: &[u8], said: Parts) -> Verdict {
+fn share_exact(results: &[u8], said: Parts) -> Verdict
+    ensures { λ r. ⌜ r ≡ byExact (now (results .entry)) said ⌝ }
+{
     let exact = cells::value(results, b"G_millionths");
     let Signed::Integer(floor) = text::signed_of(cells::part(exact, b'.', 0)) else {
         return Verdict::Unreadable;
@@ -89,5 +106,5 @@ fn share_exact(results: &[u8], said: Parts) -> Verdict {
     let Number::Whole(more) = text::number_of(cells::part(exact, b'.', 1), 1) else {
         return Verdict::Unreadable;
     };
-    placed(results::is_share(said) && results::encloses(said, floor, more))
+    placed(results::is_share_of(said, floor, more))
 }
