@@ -7,7 +7,7 @@ p != "proved" { value[p, $1] = $3; radius[p, $1] = $4 }
 # The best of all rounds.
 !((p, $1) in us) || $2 < us[p, $1] { us[p, $1] = $2; how[p, $1] = $5 }
 
-function time(p, n) { return (p, n) in us ? sprintf("%.2f", us[p, n]) : "-" }
+function time(p, n) { return (p, n) in us ? sprintf(us[p, n] < 10 ? "%.3f" : "%.2f", us[p, n]) : "-" }
 function times_proved(p, n) { return us[p, n] / us["proved", n] }
 function ratio(p, n) { return (p, n) in us ? sprintf("%.2f", times_proved(p, n)) : "-" }
 function said(p, n) { return (p, n) in value ? sprintf("%.3f", value[p, n]) : "-" }
@@ -47,12 +47,25 @@ function least(p,    i, r) {
     return r
 }
 
+function goal(met, what, got) { printf "Goal, %s: %s (%s)\n", what, met ? "met" : "MISSED", got }
+
+# How many times as long as f64 the proved program takes: the greater of its ratios on the two typical shares.
+function times_f64(    one, other) {
+    one = us["proved", "share-1h"] / us["f64", "share-1h"]
+    other = us["proved", "share-6h"] / us["f64", "share-6h"]
+    return one > other ? one : other
+}
+
 function goals() {
-    printf "Goal, a rise of 48 steps under 300 us: %s (%s)\n", (us["proved", "rise-48"] < 300 ? "met" : "MISSED"), time("proved", "rise-48")
-    printf "Goal, a rise of 24 steps with 24 neighbours in at most 300 us: %s (%s)\n", (us["proved", "trench-24"] <= 300 ? "met" : "MISSED"), time("proved", "trench-24")
+    if (("f64", "share-1h") in us && ("f64", "share-6h") in us)
+        goal(times_f64() <= 1.5, "a typical share within 1.5 times of f64", sprintf("%.2f", times_f64()))
+    if (("proved", "rise-48") in us)
+        goal(us["proved", "rise-48"] < 15, "a rise of 48 steps under 15 us", time("proved", "rise-48"))
+    if (("proved", "trench-24") in us)
+        goal(us["proved", "trench-24"] < 100, "a rise of 24 steps with 24 neighbours under 100 us", time("proved", "trench-24"))
     if (least("arb") == "") return
-    printf "Goal, every case at least 5 times faster than Arb: %s (least %.2f); Arb fitted to each case: least %.2f\n", \
-        (least("arb") >= 5 ? "met" : "MISSED"), least("arb"), least("fitted")
+    goal(least("arb") >= 5, "every case at least 5 times faster than Arb", sprintf("least %.2f", least("arb")))
+    goal(least("fitted") >= 8, "every case at least 8 times faster than Arb fitted to it", sprintf("least %.2f", least("fitted")))
 }
 
 END {

@@ -1,7 +1,7 @@
 -- The hours of a day: the first above 4,000 A, the highest load, the sum of the squares, each one hour more at a time, as a loop goes; and no load is
 -- above the highest.
 use mathlib.Core.Path.{_≡_, refl}
-use mathlib.Core.Bool.{Bool, true, false, _&&_}
+use mathlib.Core.Bool.{Bool, true, false, and-false}
 use mathlib.Core.List.{List, [], _∷_}
 use Prim.Native.Nat.{ℕ, zero, suc, _+_, _*_, _≤_, _<_, max}
 use native.Mathlib.Nat.{mul-le-mul, max-eq-left, max-eq-right}
@@ -83,11 +83,7 @@ squares-to hours x (suc n) h =
 one-loaded : (xs : List ℕ) (k : ℕ) → 0 < getD xs k 0 → allZero xs ≡ false
 one-loaded [] k h = absurd (omega arith)
 one-loaded (x ∷ xs) zero h = rw (ne-eqb x 0 (λ e. omega arith))
-one-loaded (x ∷ xs) (suc k) h = rw (one-loaded xs k h) (never (eqb x 0))
-  where
-    never : (t : Bool) → (t && false) ≡ false
-    never true = refl
-    never false = refl
+one-loaded (x ∷ xs) (suc k) h = rw (one-loaded xs k h) (and-false (eqb x 0))
 
 pub some-loaded : (hours : List ℕ) (n : ℕ) → 0 < highestOf hours n → allZero hours ≡ false
 unfolding highestOf

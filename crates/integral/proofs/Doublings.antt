@@ -4,7 +4,7 @@ use Prim.Native.Nat.{ℕ, zero, suc, _+_, _*_, _≤_, _<_}
 use borrow.Author.Tests.{le-leb, lt-leb}
 use native.Mathlib.Numerals.{add-one}
 use native.Mathlib.Omega.{arith}
-use Rattle.bounds.specs.Pair.{asBounds, timesP}
+use Rattle.bounds.specs.Pair.{Pair, asBounds, timesP}
 use Rattle.bounds.specs.Operations.{addB}
 use Rattle.bounds.specs.Promises.{Sized, largest, TimesRoom}
 use Rattle.bounds.proofs.Pairs.{add-pair, add-room, times-room}
@@ -63,30 +63,28 @@ doubling-again {x} {y} {base} {n} h t = go (t .left) (t .same) (t .fuel) (t .few
         }
 
 -- ---- after the last doubling
+-- the constant of the code
+abbrev pub lnTwo : Pair
+lnTwo = record { low = 744261068; high = 744261259 }
+
 module _ {x y base n : ℕ} (a : Ratio x y) (h : y < 2 * base) (t : DoublingTurn x y base n) where
   pub rest-octave : OneOctave base y
   rest-octave = record { some = t .some; order = t .most; near = omega arith; small = omega (arith, a .small) }
 
-  pub doublings-room : TimesRoom (asBounds (logarithmSlice 1 2)) n
-  doublings-room =
-      let f = t .few in
-      rw logarithm-of-two (times-room (record { low = 744261068; high = 744261259 }) n (omega arith) (omega arith) (omega arith))
+  pub doublings-room : TimesRoom (asBounds lnTwo) n
+  doublings-room = let f = t .few in times-room lnTwo n (omega arith) (omega arith) (omega arith)
 
-  pub rest-room : Sized largest (addB (asBounds (timesP (logarithmSlice 1 2) n)) (asBounds (logarithmSlice base y)))
+  pub rest-room : Sized largest (addB (asBounds (timesP lnTwo n)) (asBounds (logarithmSlice base y)))
   unfolding timesP
   rest-room =
       let f = t .few in
       let s = slice-most base y (omega arith) in
-      rw logarithm-of-two
-      (add-room (timesP (record { low = 744261068; high = 744261259 }) n) (logarithmSlice base y) (omega (arith, s .low)) (omega (arith, s .high)))
+      add-room (timesP lnTwo n) (logarithmSlice base y) (omega (arith, s .low)) (omega (arith, s .high))
 
-  pub doubling-done : addB (asBounds (timesP (logarithmSlice 1 2) n)) (asBounds (logarithmSlice base y)) ≡ asBounds (logarithm x y)
+  pub doubling-done : addB (asBounds (timesP lnTwo n)) (asBounds (logarithmSlice base y)) ≡ asBounds (logarithm x y)
   unfolding logarithm logarithmAfter
   doubling-done =
       let o = no-doubling (t .left) base y h in
       let e = t .same in
       let q : n ≡ doublings mostDoublings x y = omega arith in
-      rw (add-pair, t .base-is, q) refl
-
-pub two-octave : OneOctave 1 2
-two-octave = omega arith
+      rw (← logarithm-of-two, add-pair, t .base-is, q) refl

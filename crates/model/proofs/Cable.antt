@@ -10,9 +10,9 @@ use Rattle.model.specs.Integral.{Stretch, sliceStart}
 use Rattle.model.specs.Share.{cableLogarithm, cableIntegral, Ranges}
 use Rattle.model.specs.Width.{Under}
 use Rattle.model.proofs.Logarithm.{power-of-sum, Octave, doublings-in-octave, doublings-at-most-fuel, LogarithmOf, logarithm-by-doublings}
-use Rattle.model.proofs.Slice.{Spread}
-use Rattle.model.proofs.Thetas.{thetas, thetas-under-lines, thetas-at-most-octaves}
-use Rattle.model.proofs.Integral.{integral-spread, integral-under-top, slice-start-inside}
+use Rattle.model.proofs.FarSlice.{slice-start-inside}
+use Rattle.model.proofs.Thetas.{thetas-at-most-octaves}
+use Rattle.model.proofs.Integral.{Widths, integral-widths, integral-under-top}
 
 above-four-is-third-power : (n : ℕ) → 4 < powerOfTwo n → 3 ≤ n
 unfolding powerOfTwo
@@ -26,7 +26,7 @@ above-four-is-third-power (suc (suc (suc n))) h = omega arith
 thetas-by-logarithm : (n x high : ℕ) → 3 ≤ n → x ≤ one * (n + n + 2) → 1488522518 * n ≤ high → 100 * x ≤ 193 * high
 thetas-by-logarithm n x high a b c = omega arith
 
-integral-by-logarithm : (most least x high : ℕ) → one * most ≤ one * least + 2016 * least + (122 * high + 253 * x + 7 * one) → least ≤ high → 100 * x ≤ 193 * high →
+integral-by-logarithm : (most least x high : ℕ) → one * most ≤ one * least + 2016 * least + (122 * high + 156 * x + 13 * one) → least ≤ high → 100 * x ≤ 193 * high →
     4 * one ≤ high → 1000000000 * most ≤ 1000000000 * least + 2448 * high
 integral-by-logarithm most least x high a z b c =
     let e : 100 * one * most ≤ 100 * one * least + 262804 * high = omega arith in
@@ -88,8 +88,12 @@ module _ {d l s k w t : ℕ} (c : Ranges d l s k w t) where
   abbrev start : ℕ
   start = sliceStart (5 * d * d) (8000 * l * l) (8 * t * s)
 
+  cable-widths : Widths (5 * d * d) start (cableLogarithm d l .high) (cableIntegral d l s t)
+  unfolding cableIntegral
+  cable-widths = integral-widths (5 * d * d) (8000 * l * l) (8 * t * s) (cableLogarithm d l .high) cable-stretch near-below-far
+
   abbrev thetaSum : ℕ
-  thetaSum = thetas start (5 * d * d) start (8 * t * s)
+  thetaSum = cable-widths .thetas
 
   theta-sum-by-doublings : thetaSum ≤ one * (times + times + 2)
   unfolding powerOfTwo
@@ -101,15 +105,11 @@ module _ {d l s k w t : ℕ} (c : Ranges d l s k w t) where
       let m = mul-le-mul h h in
       let f : 8000 * l * l ≤ 4 * (5 * d * d * (powerOfTwo times * powerOfTwo times)) = omega arith in
       let r = thetas-at-most-octaves thetaSum (5 * d * d) start (suc (times + times)) (cable-stretch .near-some) (omega (arith, ap (λ x. 5 * d * d * x) e))
-      (thetas-under-lines start (5 * d * d) start (8 * t * s) cable-stretch (g .from) (suc (times + times))) in
+      (cable-widths .lines (suc (times + times))) in
       omega arith
 
-  cable-integral-spread : Spread (122 * cableLogarithm d l .high + 253 * thetaSum + 7 * one) (cableIntegral d l s t)
-  unfolding cableIntegral
-  cable-integral-spread = integral-spread (5 * d * d) (8000 * l * l) (8 * t * s) (cableLogarithm d l .high) cable-stretch
-
   pub cable-integral-ordered : cableIntegral d l s t .low ≤ cableIntegral d l s t .high
-  cable-integral-ordered = cable-integral-spread .order
+  cable-integral-ordered = cable-widths .spread .order
 
   pub cable-integral-under-logarithm : Under (cableLogarithm d l .high) (cableIntegral d l s t)
   unfolding cableIntegral
@@ -122,4 +122,4 @@ module _ {d l s k w t : ℕ} (c : Ranges d l s k w t) where
       let b = half-logarithm in
       let high = logarithm d (40 * l) .high * 2 in
       let y = thetas-by-logarithm times thetaSum high n theta-sum-by-doublings (omega (arith, b .high-least)) in
-      integral-by-logarithm _ _ thetaSum high (cable-integral-spread .width) (cable-integral-under-logarithm .low) y (omega (arith, n, b .high-least))
+      integral-by-logarithm _ _ thetaSum high (cable-widths .spread .width) (cable-integral-under-logarithm .low) y (omega (arith, n, b .high-least))

@@ -1,10 +1,10 @@
 -- The pair of e^(-x): at most 1, at most 51 units wide for every quotient, and at most 122 units high from 16 on.
-use mathlib.Core.Path.{_≡_, refl}
+use mathlib.Core.Path.{_≡_, refl, sym, ap}
 use mathlib.Core.Bool.{Bool, true, false}
 use Prim.Native.Nat.{ℕ, zero, suc, _+_, _*_, _/_, _%_, _≤_, _<_}
 use lib.Dec.{ltb}
 use borrow.Author.Tests.{lt-ltb, le-ltb, ltb-false}
-use native.Mathlib.Nat.{div-mul-le-self, lt-div-mul-add, mul-le-mul-right, lt-of-mul-lt-mul-right, div-le-of-le-mul, mod-lt, le-of-lt}
+use native.Mathlib.Nat.{div-mul-le-self, div-add-mod', mul-div-mul-left, lt-div-mul-add, mul-le-mul-right, lt-of-mul-lt-mul-right, div-le-of-le-mul, mod-lt, le-of-lt}
 use native.Mathlib.Omega.{arith}
 use Rattle.bounds.specs.Pair.{Pair, scaledP, quotientP, atMostP}
 use Rattle.model.specs.Scale.{one, expOrder, expLoss, farFrom}
@@ -77,13 +77,34 @@ seventeen-times = refl
 pub remainder-at-most-one : (num den : ℕ) → 0 < den → num % den * one / den ≤ one
 remainder-at-most-one num den h = fraction-at-most-one (num % den) den (le-of-lt (mod-lt num h))
 
-pub exp-far : (num den : ℕ) → farFrom < num / den → decayed (suc farFrom) (record { low = 0; high = one }) ≡ expPair num den
+pub exp-far : (num den : ℕ) → farFrom < num / den → _≡_ {A = Pair} (record { low = 0; high = 45 }) (expPair num den)
 unfolding expPair
-exp-far num den h = rw (lt-ltb _ _ h, expPair) refl
+exp-far num den h = rw (lt-ltb _ _ h, expPair) (sym seventeen-times)
 
 pub exp-near : (num den : ℕ) → num / den ≤ farFrom → decayed (num / den) (fractionExpPair (num % den * one / den)) ≡ expPair num den
 unfolding expPair
 exp-near num den h = rw (le-ltb _ _ h, expPair) refl
+
+-- with both numbers times c
+rest-scaled : (c num den : ℕ) → 0 < c → (c * num) % (c * den) * one / (c * den) ≡ num % den * one / den
+rest-scaled c num den z =
+    let q = mul-div-mul-left num den z in
+    let a = rw q at (div-add-mod' (c * num) (c * den)) in
+    let b = ap (λ t. c * t) (div-add-mod' num den) in
+    let r : (c * num) % (c * den) ≡ c * (num % den) = omega arith in
+    let s : c * (num % den) * one ≡ c * (num % den * one) = omega arith in
+    rw (r, s) (mul-div-mul-left (num % den * one) den z)
+
+-- the pair by its whole part and its rest
+ofParts : ℕ → ℕ → Pair
+ofParts m rest = elim (ltb farFrom m) [ true ↦ decayed (suc farFrom) (record { low = 0; high = one }) | false ↦ decayed m (fractionExpPair rest) ]
+
+same-parts : {m n x y : ℕ} → m ≡ n → x ≡ y → ofParts m x ≡ ofParts n y
+same-parts e f = rw (e, f) refl
+
+pub exp-scaled : (c num den : ℕ) → 0 < c → expPair (c * num) (c * den) ≡ expPair num den
+unfolding expPair ofParts
+exp-scaled c num den z = same-parts (mul-div-mul-left num den z) (rest-scaled c num den z)
 
 pub exp-at-most-one : (num den : ℕ) → Under one (expPair num den)
 unfolding expPair

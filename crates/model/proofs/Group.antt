@@ -16,13 +16,13 @@ use Rattle.exact.specs.Share as exact
 use Rattle.model.specs.Scale.{one, million, betaOne, diffusionEnd, mostDoublings, exactly, fromFloor}
 use Rattle.model.specs.Series.{thetaOf, seriesPair}
 use Rattle.model.specs.Logarithm.{powerOfTwo, logarithmSlice, doublings, logarithmAfter, logarithm}
-use Rattle.model.specs.Integral.{Stretch, sliceStart}
+use Rattle.model.specs.Integral.{Stretch, sliceStart, heatingIntegral}
 use Rattle.model.specs.Share.{attainedShare, cableLogarithm, cableIntegral, sourceLogarithm, sourceIntegral, withLogarithms, withIntegrals, groupLogarithm, groupIntegral, Ranges}
 use Rattle.model.specs.Width.{Under, Within, innerWidth}
 use Rattle.model.proofs.Series.{seriesMost, series-most, series-at-least-one, series-without-tau-within-378, theta-at-most-half}
 use Rattle.model.proofs.Logarithm.{power-of-sum, power-above-zero, Octave, doublings-in-octave, logarithm-of-two, logarithm-by-doublings}
-use Rattle.model.proofs.Thetas.{thetas, thetas-under-lines}
-use Rattle.model.proofs.Integral.{integral-spread, integral-under-top, slice-start-inside}
+use Rattle.model.proofs.FarSlice.{slice-start-inside}
+use Rattle.model.proofs.Integral.{Widths, integral-widths, integral-under-top}
 use Rattle.model.proofs.Cable.{cable-logarithm-ordered, cable-logarithm-above-zero, cable-logarithm-most, cable-logarithm-width, cable-stretch, cable-integral-ordered, cable-integral-under-logarithm, cable-integral-width}
 use Rattle.model.proofs.Share.{beta-within, beta-at-most-one, surface-within, surface-at-most-one, attainment-within-52, attainment-at-most-one, share-of-within, share-of-at-most-million}
 
@@ -115,18 +115,18 @@ theta-sum-by-line t n p m theta z h k l q =
     lt-of-mul-lt-mul-right p (omega arith)
 
 record Least (n theta : ℕ) : Type 0 where
-  integral : 7 * one ≤ 182 * (744261259 * n + theta + 1)
+  integral : 13 * one ≤ 338 * (744261259 * n + theta + 1)
   logarithm : 6000000000 ≤ 147 * theta + 181000000000 * n
 
 at-least : (n theta : ℕ) → (n ≡ 0 → one < 26 * (theta + 1)) → Least n theta
 at-least zero theta h = let g = h refl in record { integral = omega arith; logarithm = omega arith }
 at-least (suc n) theta h = record { integral = omega arith; logarithm = omega arith }
 
-integral-by-logarithm : (most least x high n theta : ℕ) → one * most ≤ one * least + 2016 * least + (122 * high + 253 * x + 7 * one) → least ≤ high → x < one * n + 2 * (theta + 1) →
+integral-by-logarithm : (most least x high n theta : ℕ) → one * most ≤ one * least + 2016 * least + (122 * high + 156 * x + 13 * one) → least ≤ high → x < one * n + 2 * (theta + 1) →
     744261259 * n + theta + 1 ≤ high → Least n theta → 1000000000 * most ≤ 1000000000 * least + 2632 * high
 integral-by-logarithm most least x high n theta a b c e l =
     let f : x ≤ 2 * high = omega arith in
-    let g : 7 * one ≤ 182 * high = let z = l .integral in omega arith in
+    let g : 13 * one ≤ 338 * high = let z = l .integral in omega arith in
     let y : one * most ≤ one * least + 2826 * high = omega arith in
     only y
   where
@@ -175,12 +175,15 @@ module _ {x : Source} {diffusion : ℕ} (a : Beside x) (i : 0 < diffusion) (k : 
   abbrev start : ℕ
   start = sliceStart (2000 * c) (2000 * m) diffusion
 
-  theta-sum : thetas start (2000 * c) start diffusion < one * times + 2 * (theta + 1)
+  source-widths : Widths (2000 * c) start (logarithm c m .high) (heatingIntegral (2000 * c) (2000 * m) diffusion (logarithm c m .high))
+  source-widths = integral-widths (2000 * c) (2000 * m) diffusion (logarithm c m .high) source-stretch (omega arith)
+
+  theta-sum : source-widths .thetas < one * times + 2 * (theta + 1)
   theta-sum =
       let o = in-octave in
       let g = slice-start-inside (2000 * c) (2000 * m) diffusion (omega arith) in
-      let u = thetas-under-lines start (2000 * c) start diffusion source-stretch (g .from) times .under in
-      theta-sum-by-line (thetas start (2000 * c) start diffusion) times last m theta last-above-zero (omega arith) (omega arith) (omega arith) theta-more
+      let u = source-widths .lines times .under in
+      theta-sum-by-line (source-widths .thetas) times last m theta last-above-zero (omega arith) (omega arith) (omega arith) theta-more
 
   -- without a doubling the rest is at least 1/26
   theta-least : times ≡ 0 → one < 26 * (theta + 1)
@@ -195,7 +198,7 @@ module _ {x : Source} {diffusion : ℕ} (a : Beside x) (i : 0 < diffusion) (k : 
   source-close =
       let r = last-slice in
       let l = at-least times theta theta-least in
-      let g = integral-spread (2000 * c) (2000 * m) diffusion (logarithm c m .high) source-stretch in
+      let g = source-widths .spread in
       let u = integral-under-top (2000 * c) (2000 * m) diffusion (logarithm c m .high) in
       let f = theta-sum in
       let high : logarithm c m .high ≡ 744261259 * times + logarithmSlice last m .high = rw logarithm-of-two refl in
@@ -205,7 +208,7 @@ module _ {x : Source} {diffusion : ℕ} (a : Beside x) (i : 0 < diffusion) (k : 
         logarithm-order = omega (arith, high, low, r .order);
         low-under = u .low;
         high-under = u .high;
-        integral-width = integral-by-logarithm _ _ (thetas start (2000 * c) start diffusion) (logarithm c m .high) times theta (g .width) (u .low) f (omega (arith, high, r .more)) l;
+        integral-width = integral-by-logarithm _ _ (source-widths .thetas) (logarithm c m .high) times theta (g .width) (u .low) f (omega (arith, high, r .more)) l;
         logarithm-width = rw (high, low) (logarithm-by-itself times theta (logarithmSlice last m .low) (logarithmSlice last m .high) (r .width) (r .least) l);
       }
 

@@ -3,7 +3,8 @@ pub mod Exponential
 pub mod Series
 pub mod Logarithm
 pub mod Slice
-pub mod Walk
+pub mod Parts
+pub mod FarSlice
 pub mod Thetas
 pub mod Integral
 pub mod Share

@@ -1,7 +1,7 @@
 -- The series of a slice, for θ at most 1/2 and τ at most 1: from 1 to 3, and at most 2,016 units wide; at most 378 where τ is 0.
-use mathlib.Core.Path.{_≡_}
-use Prim.Native.Nat.{ℕ, zero, suc, _+_, _*_, _/_, _-_, _≤_}
-use native.Mathlib.Nat.{mul-le-mul-right, div-mul-le-self}
+use mathlib.Core.Path.{_≡_, ap}
+use Prim.Native.Nat.{ℕ, zero, suc, _+_, _*_, _/_, _-_, _≤_, _<_}
+use native.Mathlib.Nat.{mul-le-mul-right, div-mul-le-self, mul-div-mul-left}
 use native.Mathlib.Omega.{arith}
 use Rattle.model.specs.Scale.{one, half}
 use Rattle.model.specs.Exponential.{expTerm}
@@ -96,3 +96,10 @@ series-without-tau-within-378 theta h = let f = term-halves-without-tau theta 19
 -- ---- θ
 pub theta-at-most-half : (x y : ℕ) → 2 * (y - x) ≤ y → thetaOf x y ≤ half
 theta-at-most-half x y h = fraction-at-most-half (y - x) y h
+
+-- both ends times c
+pub same-theta : (c x y : ℕ) → 0 < c → x ≤ y → thetaOf (c * x) (c * y) ≡ thetaOf x y
+same-theta c x y z h =
+    let d : y - x + x ≡ y = omega arith in
+    let e : (c * y - c * x) * one ≡ c * ((y - x) * one) = omega (arith, ap (λ t. c * t) d) in
+    rw e (mul-div-mul-left ((y - x) * one) y z)

@@ -1,7 +1,6 @@
--- One slice of the heating integral. With S = 2^30, S times its pair's width is at most 2,016 low + 156 θ + 6 S, and 2,016 low + 253 θ
--- for a slice that is not cut off.
+-- One slice of the heating integral. With S = 2^30, S times its pair's width is at most 2,016 low + 156 θ + 6 S.
 use Prim.Native.Nat.{ℕ, _+_, _*_, _/_, _-_, _≤_, _<_}
-use native.Mathlib.Nat.{mul-le-mul, lt-div-mul-add, mul-le-mul-left, mul-le-mul-right, lt-of-mul-lt-mul-right}
+use native.Mathlib.Nat.{mul-le-mul, mul-le-mul-left, mul-le-mul-right, lt-of-mul-lt-mul-right}
 use native.Mathlib.Omega.{arith}
 use Rattle.bounds.specs.Pair.{Pair, scaledP}
 use Rattle.model.specs.Scale.{one, half, fromFloor}
@@ -85,12 +84,3 @@ module _ {x y diffusion : ℕ} (s : Slice x y diffusion) where
       (height-spread exponential series (exp-at-most-one y diffusion .high) (exp-within-51 y diffusion (omega arith)) (series-within-2016 _ _ theta-half tau-one)
       (series-at-least-one (thetaOf x y) (tauOf x y diffusion)) (slice-series-most .high))
       (slice-height-most .high)
-
-  theta-of-whole-slice : y ≤ 16 * (y - x) → one ≤ 16 * thetaOf x y + 15
-  theta-of-whole-slice h =
-      let l = lt-div-mul-add {a = (y - x) * one} {b = y} (omega arith) in
-      let m : one < 16 * (thetaOf x y + 1) = lt-of-mul-lt-mul-right y (omega arith) in
-      omega arith
-
-  pub whole-slice-spread : y ≤ 16 * (y - x) → Spread (253 * thetaOf x y) (slicePair x y diffusion)
-  whole-slice-spread h = let g = slice-spread in let t = theta-of-whole-slice h in record { order = g .order; width = omega arith }

@@ -1,23 +1,16 @@
--- The sum of the slices' θ, without exact logarithms: it lies below every line n - 1 + y/(near · 2^n), of which the one for the octave
+-- The sum of the θ of slices from `near` to y, without exact logarithms: it lies below every line n - 1 + y/(near · 2^n), of which the one for the octave
 -- that y lies in is the logarithm to the base 2 or a little more.
 use mathlib.Core.Path.{_≡_, refl}
 use mathlib.Core.Bool.{Bool, true, false}
 use Prim.Native.Nat.{ℕ, zero, suc, _+_, _*_, _-_, _≤_, _<_}
-use lib.Dec.{ltb, leb}
-use borrow.Author.Tests.{ltb-true, leb-true, leb-false}
+use lib.Dec.{leb}
+use borrow.Author.Tests.{leb-true, leb-false}
 use native.Mathlib.Nat.{div-mul-le-self, mul-le-mul, mul-le-mul-left, lt-of-mul-lt-mul-right}
 use native.Mathlib.Omega.{arith}
 use Rattle.model.specs.Scale.{one}
 use Rattle.model.specs.Series.{thetaOf}
 use Rattle.model.specs.Logarithm.{powerOfTwo}
-use Rattle.model.specs.Integral.{Stretch, nextEnd}
 use Rattle.model.proofs.Logarithm.{power-above-zero}
-use Rattle.model.proofs.Walk.{next-slice}
-
--- the sum of θ over the slices of the walk
-unfoldable pub thetas : ℕ → ℕ → ℕ → ℕ → ℕ
-thetas zero near y diffusion = 0
-thetas (suc fuel) near y diffusion = elim (ltb near y) [ true ↦ thetaOf (nextEnd near y diffusion) y + thetas fuel near (nextEnd near y diffusion) diffusion | false ↦ 0 ]
 
 -- t lies below the n-th line at y
 pub record UnderLine (t near y n : ℕ) : Type 0 where
@@ -47,17 +40,21 @@ one-theta-more t near x y n h k l =
 none-under : (near y n : ℕ) → near * powerOfTwo n ≤ y → UnderLine 0 near y n
 none-under near y n h = record { under = omega arith }
 
-pub thetas-under-lines : (fuel near y diffusion : ℕ) → Stretch near diffusion → near ≤ y → (n : ℕ) → UnderLine (thetas fuel near y diffusion) near y n
-unfolding thetas
-thetas-under-lines zero near y diffusion s h = under-based-lines-suffices 0 near y h (λ n l. none-under near y n l)
-thetas-under-lines (suc fuel) near y diffusion s h = go (ltb near y) refl (λ x l. thetas-under-lines fuel near x diffusion s l)
-  where
-    go : (b : Bool) → ltb near y ≡ b → ((x : ℕ) → near ≤ x → (n : ℕ) → UnderLine (thetas fuel near x diffusion) near x n) →
-        (n : ℕ) → UnderLine (elim b [ true ↦ thetaOf (nextEnd near y diffusion) y + thetas fuel near (nextEnd near y diffusion) diffusion | false ↦ 0 ]) near y n
-    go true e r =
-        let x = next-slice near y diffusion s (ltb-true near y e) in
-        under-based-lines-suffices _ near y h (λ n l. one-theta-more _ near (nextEnd near y diffusion) y n (omega arith) l (r (nextEnd near y diffusion) (omega arith) n))
-    go false e r = under-based-lines-suffices 0 near y h (λ n l. none-under near y n l)
+pub same-line : {t u near y n : ℕ} → t ≡ u → UnderLine t near y n → UnderLine u near y n
+same-line e l = rw e at l
+
+-- t lies below every line at y
+abbrev pub Lines : ℕ → ℕ → ℕ → Type 0
+Lines t near y = (n : ℕ) → UnderLine t near y n
+
+pub none-under-lines : (near y : ℕ) → near ≤ y → Lines 0 near y
+none-under-lines near y h = under-based-lines-suffices 0 near y h (λ n l. none-under near y n l)
+
+pub one-theta-more-under-lines : (t near x y : ℕ) → near ≤ x → x ≤ y → Lines t near x → Lines (thetaOf x y + t) near y
+one-theta-more-under-lines t near x y h k r = under-based-lines-suffices _ near y (omega arith) (λ n l. one-theta-more t near x y n k l (r n))
+
+pub lines-halved : (t near y : ℕ) → Lines t (2 * near) (2 * y) → Lines t near y
+lines-halved t near y r n = let u = r n .under in record { under = omega arith }
 
 -- within n + 1 octaves the θ sum to at most n + 1
 pub thetas-at-most-octaves : (t near y n : ℕ) → 0 < near → y ≤ 2 * (near * powerOfTwo n) → UnderLine t near y n → t ≤ one * (n + 1)

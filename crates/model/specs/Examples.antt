@@ -9,7 +9,7 @@ use Rattle.model.specs.Scale.{one, half}
 use Rattle.model.specs.Exponential.{expTerm, expSum, fractionExpPair, decayed, expPair}
 use Rattle.model.specs.Series.{seriesTerm, seriesSum, seriesPair}
 use Rattle.model.specs.Logarithm.{powerOfTwo, logarithmSlice, doublings, logarithmAfter, logarithm}
-use Rattle.model.specs.Integral.{slicePair, nextEnd, walk, sliceStart, farPair, heatingIntegral}
+use Rattle.model.specs.Integral.{slicePair, unitSlice, halfSlice, anySlice, partSlice, unitPart, halfPart, sliceStart, farPair, unitSum, halfSum, heatingIntegral}
 use Rattle.model.specs.Share.{beta, surfaceFactor, attainmentOf, attainment, shareOf, cableLogarithm, cableIntegral, sourceLogarithm, sourceIntegral, withLogarithms, withIntegrals, groupLogarithm, groupIntegral, attainedShare}
 
 -- e^(-0.36), e^0 and e^(-17)
@@ -49,7 +49,7 @@ pub integrals : _≡_ {A = List Pair}
     (record { low = 107395183; high = 107395472 } ∷
     record { low = 0; high = 188 } ∷
     [])
-unfolding addP atMostP expTerm expSum quotientP fractionExpPair scaledP decayed expPair seriesTerm seriesSum seriesPair slicePair nextEnd walk sliceStart farPair heatingIntegral
+unfolding addP atMostP expTerm expSum quotientP fractionExpPair scaledP decayed expPair seriesTerm seriesSum seriesPair slicePair powerOfTwo unitSlice halfSlice anySlice partSlice unitPart halfPart sliceStart farPair unitSum halfSum heatingIntegral
 integrals = refl
 
 -- w 500,000, fast 1,000, slow 100, after an hour
@@ -69,7 +69,7 @@ pub shares : _≡_ {A = List Pair}
     record { low = 107974; high = 107976 } ∷
     record { low = 0; high = 1 } ∷
     [])
-unfolding addP lessP timesP dividedP ceilN atMostP expTerm expSum quotientP fractionExpPair scaledP decayed expPair seriesTerm seriesSum seriesPair powerOfTwo logarithmSlice doublings logarithmAfter logarithm slicePair nextEnd walk sliceStart farPair heatingIntegral beta surfaceFactor attainmentOf attainment shareOf cableLogarithm cableIntegral withLogarithms withIntegrals attainedShare
+unfolding addP lessP timesP dividedP ceilN atMostP expTerm expSum quotientP fractionExpPair scaledP decayed expPair seriesTerm seriesSum seriesPair powerOfTwo logarithmSlice doublings logarithmAfter logarithm slicePair unitSlice halfSlice anySlice partSlice unitPart halfPart sliceStart farPair unitSum halfSum heatingIntegral beta surfaceFactor attainmentOf attainment shareOf cableLogarithm cableIntegral withLogarithms withIntegrals attainedShare
 shares = refl
 
 -- of a cable 1,000 mm deep: two neighbours as deep, 200 mm to either side; and one such with one 300 mm to the side and 500 mm deeper
@@ -85,9 +85,9 @@ pub group-sums : _≡_ {A = List Pair}
     groupIntegral 500 1000 500 172800 unlike ∷
     [])
     (record { low = 17507211386; high = 17507215755 } ∷
-    record { low = 8221620868; high = 8221623871 } ∷
+    record { low = 8221620738; high = 8221623976 } ∷
     [])
-unfolding addP timesP atMostP expTerm expSum quotientP fractionExpPair scaledP decayed expPair seriesTerm seriesSum seriesPair powerOfTwo logarithmSlice doublings logarithmAfter logarithm slicePair nextEnd walk sliceStart farPair heatingIntegral cableLogarithm cableIntegral sourceLogarithm sourceIntegral withLogarithms withIntegrals
+unfolding addP timesP atMostP expTerm expSum quotientP fractionExpPair scaledP decayed expPair seriesTerm seriesSum seriesPair powerOfTwo logarithmSlice doublings logarithmAfter logarithm slicePair unitSlice halfSlice anySlice partSlice unitPart halfPart sliceStart farPair unitSum halfSum heatingIntegral cableLogarithm cableIntegral sourceLogarithm sourceIntegral withLogarithms withIntegrals
 group-sums = refl
 
 -- shares with neighbours after an hour, and after two days
@@ -100,5 +100,5 @@ pub group-shares : _≡_ {A = List Pair}
     record { low = 704203; high = 704204 } ∷
     record { low = 681767; high = 681769 } ∷
     [])
-unfolding addP lessP timesP dividedP ceilN atMostP expTerm expSum quotientP fractionExpPair scaledP decayed expPair seriesTerm seriesSum seriesPair powerOfTwo logarithmSlice doublings logarithmAfter logarithm slicePair nextEnd walk sliceStart farPair heatingIntegral beta surfaceFactor attainmentOf attainment shareOf cableLogarithm cableIntegral sourceLogarithm sourceIntegral withLogarithms withIntegrals attainedShare
+unfolding addP lessP timesP dividedP ceilN atMostP expTerm expSum quotientP fractionExpPair scaledP decayed expPair seriesTerm seriesSum seriesPair powerOfTwo logarithmSlice doublings logarithmAfter logarithm slicePair unitSlice halfSlice anySlice partSlice unitPart halfPart sliceStart farPair unitSum halfSum heatingIntegral beta surfaceFactor attainmentOf attainment shareOf cableLogarithm cableIntegral sourceLogarithm sourceIntegral withLogarithms withIntegrals attainedShare
 group-shares = refl

@@ -28,13 +28,9 @@ unfoldable pub decayed : ℕ → Pair → Pair
 decayed zero b = b
 decayed (suc m) b = decayed m (decayedOnce b)
 
--- e^(-x) for what num leaves over whole multiples of den
-abbrev pub restExp : ℕ → ℕ → Pair
-restExp num den = fractionExpPair (num % den * one / den)
-
 -- e^(-num/den): by its whole part and its rest
 unfoldable pub expPair : ℕ → ℕ → Pair
 expPair num den = elim (ltb farFrom (num / den)) [
   | true ↦ decayed (suc farFrom) (record { low = 0; high = one })
-  | false ↦ decayed (num / den) (restExp num den)
+  | false ↦ decayed (num / den) (fractionExpPair (num % den * one / den))
 ]

@@ -42,6 +42,14 @@ farFrom = 16
 abbrev pub diffusionEnd : ℕ
 diffusionEnd = 4294967296
 
+-- how many slices of the heating integral lie between the knots 16, 15, .., 1; and how many between 1, 1/2, 1/4, .. a near end of 1 or more and a diffusion below 2^32
+-- may need
+abbrev pub units : ℕ
+units = 15
+
+abbrev pub halves : ℕ
+halves = 32
+
 -- a logarithm is of a quotient below 2 to this power, a plain number
 abbrev pub mostDoublings : ℕ
 mostDoublings = 33

@@ -12,3 +12,4 @@ pub mod Machine
 pub mod SignedIntegers
 pub mod Largest
 pub mod Filling
+pub mod Tested

@@ -3,8 +3,8 @@ ghost use mathlib.Core.Path.{_≡_};
 ghost use Rattle.bounds.specs.Pair.{asBounds, asPair};
 ghost use Rattle.model.specs.Scale.{one};
 ghost use Rattle.model.specs.Series.{seriesPair};
-ghost use Rattle.model.specs.Exponential.{fractionExpPair, decayed, restExp, expPair};
-ghost use Rattle.series.specs.Asked.{SliceFractions, PartOfOne, Exponent, UpTo, WithRest};
+ghost use Rattle.model.specs.Exponential.{fractionExpPair, decayed, expPair};
+ghost use Rattle.series.specs.Asked.{SliceFractions, PartOfOne, Exponent, UpTo};
 use bounds::Bounds;
 
 // 1, in units of 2^-30; and the same as an end of a pair.
@@ -30,8 +30,10 @@ const INVERSE_E: Bounds = Bounds {
     high: 395007543,
 };
 
-// Beyond this argument, a plain number, e^(-u) is taken for anything from 0 to e^(-17).
+// Beyond this argument, a plain number, e^(-u) is taken for anything from 0 to e^(-17); and that, in units of 2^-30.
 pub const FAR_FROM: u64 = 16;
+
+const FAR_EXP: Bounds = Bounds { low: 0, high: 45 };
 
 // The sum of g_k/(k + 1) with g_0 = 1 and g_k = theta·g_(k-1) + tau^k/k!, in units of 2^-30.
 pub fn series(theta: u64, tau: u64) -> Bounds
@@ -83,30 +85,14 @@ fn decayed(start: Bounds, m: u64) -> Bounds
     pair
 }
 
-// e^(-x) for what num leaves over whole multiples of den, as a part of den, in units of 2^-30.
-pub fn exp_rest(num: u64, den: u64) -> Bounds
-    requires { ⌜ Exponent num den ⌝ }
-    ensures { λ r. ⌜ r ≡ asBounds (restExp num den) ⌝ }
-{
-    exp_fraction(num % den * ONE / den)
-}
-
-// e^(-num/den) from that of the rest, in units of 2^-30.
-pub fn exp_from(rest: Bounds, num: u64, den: u64) -> Bounds
-    requires { ⌜ WithRest rest num den ⌝ }
-    ensures { λ r. ⌜ r ≡ asBounds (expPair num den) ⌝ }
-{
-    let whole = num / den;
-    if whole > FAR_FROM {
-        return decayed(bounds::from_naturals(0, ONE), FAR_FROM + 1);
-    }
-    decayed(rest, whole)
-}
-
 // e^(-num/den), in units of 2^-30.
 pub fn exp_neg(num: u64, den: u64) -> Bounds
     requires { ⌜ Exponent num den ⌝ }
     ensures { λ r. ⌜ r ≡ asBounds (expPair num den) ⌝ }
 {
-    exp_from(exp_rest(num, den), num, den)
+    let whole = num / den;
+    if whole > FAR_FROM {
+        return FAR_EXP;
+    }
+    decayed(exp_fraction(num % den * ONE / den), whole)
 }

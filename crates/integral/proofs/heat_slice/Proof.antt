@@ -16,42 +16,34 @@ mul-theta c = search needs
 div-theta : tie.Need-div-theta
 div-theta c = search needs
 
-exp-from-requires : tie.Need-exp-from-requires
-exp-from-requires c κs = search needs
+mul-series : tie.Need-mul-series
+mul-series c = search needs
 
-diffusions-requires : tie.Need-diffusions-requires
-diffusions-requires c κs = search needs
+div-series : tie.Need-div-series
+div-series c = search needs
 
 series-requires : tie.Need-series-requires
-series-requires c κs = rw (c .diffusions .ensures) (slice-fractions (c .before .before .pre .slice))
+series-requires c κs = slice-fractions (c .pre .slice)
 
 scaled-mul-requires : tie.Need-scaled-mul-requires
-scaled-mul-requires c κs = rw (c .before .before .exp-from .ensures, c .series .ensures, c .before .diffusions .ensures) (height-room (c .before .before .before .pre .slice))
+scaled-mul-requires c κs = rw (c .before .pre .decay-is, c .series .ensures) (height-room (c .before .pre .slice))
 
 add-from-naturals : tie.Need-add-from-naturals
-add-from-naturals c = let h = theta-half (c .before .before .before .before .pre .slice) in omega arith
+add-from-naturals c = let h = theta-half (c .before .before .pre .slice) in omega arith
 
 from-naturals-requires : tie.Need-from-naturals-requires
-from-naturals-requires c κs = let h = theta-half (c .before .before .before .before .pre .slice) in omega arith
+from-naturals-requires c κs = let h = theta-half (c .before .before .pre .slice) in omega arith
 
 scaled-mul-requires-2 : tie.Need-scaled-mul-requires-2
 scaled-mul-requires-2 c κs =
     let s = c .before in
-    let d = s .before .before in
-    rw (s .scaled-mul .ensures .is, s .before .series .ensures, d .diffusions .ensures, d .before .exp-from .ensures, c .from-naturals .ensures, scaled-pair) (area-room (d .before .before .pre .slice))
+    let a = s .before .before .pre in
+    rw (s .scaled-mul .ensures .is, s .before .series .ensures, a .decay-is, c .from-naturals .ensures, scaled-pair) (area-room (a .slice))
 
 returns : tie.Need-returns
 returns c =
     let s = c .before .before in
-    let d = s .before .before in
-    rw (
-      c .scaled-mul2 .ensures .is,
-      c .before .from-naturals .ensures,
-      s .scaled-mul .ensures .is,
-      s .before .series .ensures,
-      d .diffusions .ensures,
-      d .before .exp-from .ensures,
-    )
+    rw (c .scaled-mul2 .ensures .is, c .before .from-naturals .ensures, s .scaled-mul .ensures .is, s .before .series .ensures, s .before .before .pre .decay-is)
     (heat-slice-is _ _ _)
 
 pub heat-slice-spec : {M : Type 1} → statement M
@@ -61,8 +53,8 @@ heat-slice-spec =
     sub-width
     mul-theta
     div-theta
-    exp-from-requires
-    diffusions-requires
+    mul-series
+    div-series
     series-requires
     scaled-mul-requires
     add-from-naturals

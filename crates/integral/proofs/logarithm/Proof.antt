@@ -1,8 +1,9 @@
--- The loop counts the doublings; each is the slice from 1 to 2, and the rest is one slice. Assumes nothing.
+-- The loop counts the doublings; each is ln 2, and the rest is one slice. Assumes nothing.
+use mathlib.Core.Path.{_∙_}
 use Prim.Native.Nat.{_-_}
 use native.Mathlib.Omega.{arith}
 use Rattle.bounds.proofs.Pairs.{times-pair}
-use Rattle.integral.proofs.Doublings.{DoublingTurn, doubling-begin, doubling-again, doubling-done, two-octave, rest-octave, doublings-room, rest-room}
+use Rattle.integral.proofs.Doublings.{lnTwo, DoublingTurn, doubling-begin, doubling-again, doubling-done, rest-octave, doublings-room, rest-room}
 use Rattle.integral.proofs.logarithm.Statement.{statement}
 use Rattle.integral.proofs.logarithm.Tie as tie
 
@@ -30,24 +31,21 @@ add-doublings c = omega arith
 loop-less : tie.Need-loop-less Inv-loop μ-loop
 loop-less c = omega arith
 
-logarithm-slice-requires : tie.Need-logarithm-slice-requires Inv-loop μ-loop
-logarithm-slice-requires c κs = two-octave
-
 times-requires : tie.Need-times-requires Inv-loop μ-loop
-times-requires c κs = rw (c .logarithm-slice .ensures) (doublings-room (c .before .before .before .pre) (omega arith) (c .before .before .loop .inv))
+times-requires c κs = doublings-room (c .before .before .pre) (omega arith) (c .before .loop .inv)
 
-logarithm-slice-requires-2 : tie.Need-logarithm-slice-requires-2 Inv-loop μ-loop
-logarithm-slice-requires-2 c κs = rest-octave (c .before .before .before .before .pre) (omega arith) (c .before .before .before .loop .inv)
+logarithm-slice-requires : tie.Need-logarithm-slice-requires Inv-loop μ-loop
+logarithm-slice-requires c κs = rest-octave (c .before .before .before .pre) (omega arith) (c .before .before .loop .inv)
 
 add-requires : tie.Need-add-requires Inv-loop μ-loop
 add-requires c κs =
-    let l = c .before .before .before .before in
-    rw (c .before .times .ensures .is, c .before .before .logarithm-slice .ensures, c .logarithm-slice2 .ensures, times-pair) (rest-room (l .before .pre) (omega arith) (l .loop .inv))
+    let l = c .before .before .before in
+    rw (c .before .times .ensures .is ∙ times-pair lnTwo _, c .logarithm-slice .ensures) (rest-room (l .before .pre) (omega arith) (l .loop .inv))
 
 returns : tie.Need-returns Inv-loop μ-loop
 returns c =
-    let l = c .before .before .before .before .before in
-    rw (c .add .ensures .is, c .before .before .times .ensures .is, c .before .before .before .logarithm-slice .ensures, c .before .logarithm-slice2 .ensures, times-pair)
+    let l = c .before .before .before .before in
+    rw (c .add .ensures .is, c .before .before .times .ensures .is ∙ times-pair lnTwo _, c .before .logarithm-slice .ensures)
     (doubling-done (l .before .pre) (omega arith) (l .loop .inv))
 
 pub logarithm-spec : {M : Type 1} → statement M
@@ -62,8 +60,7 @@ logarithm-spec =
     add-doublings
     loop-less
     loop-again
-    logarithm-slice-requires
     times-requires
-    logarithm-slice-requires-2
+    logarithm-slice-requires
     add-requires
     returns)

@@ -1,7 +1,7 @@
 -- Each branch is the model's. Assumes nothing.
 use mathlib.Core.Path.{sym, _∙_}
 use native.Mathlib.Omega.{arith}
-use Rattle.model.proofs.Integral.{slice-start-far, slice-start-near}
+use Rattle.model.proofs.FarSlice.{slice-start-far, slice-start-near}
 use borrow.Author.Needs.{needs}
 use Rattle.integral.proofs.slice_start.Statement.{statement}
 use Rattle.integral.proofs.slice_start.Tie as tie

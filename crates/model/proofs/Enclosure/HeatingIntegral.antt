@@ -1,56 +1,77 @@
--- The heating integral's pair encloses J, and so does the running pair at every stage of the walk, from the place where the walk stands.
-use Prim.Native.Nat.{ℕ, zero, suc, _+_, _*_, _/_, _≤_, min, max}
+-- The heating integral's pair encloses J, and so does the sum at every stage, from the place that it has reached.
+use Prim.Native.Nat.{ℕ, zero, suc, _+_, _*_, _/_, _-_, _≤_, _<_, min, max}
 use mathlib.Core.Path.{_≡_, refl}
 use mathlib.Core.Bool.{Bool, true, false}
 use mathlib.Core.List.{[], _∷_}
 use mathlib.Core.Logic.{_⊎_, inl, inr}
 use lib.Dec.{ltb}
 use borrow.Author.Tests.{ltb-true, ltb-false}
+use native.Mathlib.Nat.{mul-pos, mul-le-mul-right}
 use native.Mathlib.Omega.{arith}
-use Rattle.numbers.specs.Fraction.{Frac, _≼_, _per_, 0F, _⊕_, _⊗_}
+use Rattle.numbers.specs.Fraction.{Frac, _≼_, _≈_, _per_, 0F, _⊕_, _⊗_}
 use Rattle.numbers.specs.Signed.{ofFrac}
-use Rattle.numbers.proofs.Fractions.{refl≈}
+use Rattle.numbers.proofs.Fractions.{refl≼, trans≼, refl≈, sym≈}
 use Rattle.numbers.proofs.FractionProver.{qv, qn, _+'_, _*'_, q-from, le}
 use Rattle.bounds.specs.Pair.{Pair, scaledP, atMostP}
 use Rattle.exact.specs.Value.{AtLeast, integral, ln}
 use Rattle.exact.proofs.Slices.{none, end}
-use Rattle.model.specs.Scale.{one, farFrom}
+use Rattle.model.specs.Scale.{one, farFrom, units, halves}
 use Rattle.model.specs.Exponential.{expPair}
-use Rattle.model.specs.Integral.{Stretch, slicePair, nextEnd, joined, walk, Summed, sliceStart, farPair, heatingIntegral}
-use Rattle.model.specs.Integral as model
-use Rattle.model.proofs.Walk.{next-slice, summed-keeps}
-use Rattle.model.proofs.Integral.{slice-start-far, slice-start-near, far-pair-far, far-pair-near}
+use Rattle.model.specs.Logarithm.{powerOfTwo}
+use Rattle.model.specs.Integral.{Stretch, unitSlice, halfSlice, unitPart, halfPart, within, joined, unitPlace, halfPlace, sliceStart, farPair, unitSum, halfSum, heatingIntegral}
+use Rattle.model.proofs.Logarithm.{power-above-zero}
+use Rattle.model.proofs.Parts.{unit-slice, half-slice, unit-scaled, half-scaled, within-from, twice-within}
+use Rattle.model.proofs.FarSlice.{slice-start-far, slice-start-near, start-place, far-pair-far, far-pair-near}
 use Rattle.model.specs.Encloses.{unit, Encloses}
 use Rattle.model.proofs.Enclosure.Units.{unit-times-over}
+use Rattle.model.proofs.Enclosure.Places.{per-rises, per-scaled}
 use Rattle.model.proofs.Enclosure.Exponential.{exp-in}
-use Rattle.model.proofs.Enclosure.HeatingSlices.{FarTerm, far-term, no-far-term, Walked, walked-encloses, walked-further}
+use Rattle.model.proofs.Enclosure.HeatingSlices.{FarTerm, far-term, no-far-term, StepIn, scaled-step, part-step, Walked, walked-encloses, walked-same, walked-further}
 
--- no slice begins before the near end
-summed-inside : {near start D top : ℕ} {b : Pair} → Stretch near D → near ≤ start → {y : ℕ} {sum : Pair} → Summed near start D top b y sum → near ≤ y
-summed-inside s h model.none = h
-summed-inside {near} {start} {D} s h (model.more {y} {sum} r l) = next-slice near y D s l .from
-
--- the walk with fuel enough sums every slice
-walk-sums : {near start D top : ℕ} {b : Pair} → Stretch near D → (fuel y : ℕ) (sum : Pair) → y ≤ fuel + near → near ≤ y → Summed near start D top b y sum →
-    Summed near start D top b near (walk fuel near y D top sum)
-unfolding walk
-walk-sums {near} s zero y sum h k r = let e : y ≡ near = omega arith in rw e at r
-walk-sums {near} {start} {D} {top} {b} s (suc fuel) y sum h k r = go (ltb near y) refl (λ x q u v t. walk-sums s fuel x q u v t)
+-- ---- the steps from knot to knot
+unit-step : {near D : ℕ} (far n : ℕ) → Stretch near D → 0 < n → StepIn (within near far (n * D) per D) (within near far (suc n * D) per D) (unitPart near far D n)
+unfolding unitPart unitSlice
+unit-step {near} {D} far n s h = part-step near far (n * D) (suc n * D) D (unitSlice n) (unit-scaled n s h) (go (omega arith) (omega arith) (omega arith))
   where
-    go : (c : Bool) → ltb near y ≡ c → ((x : ℕ) (q : Pair) → x ≤ fuel + near → near ≤ x → Summed near start D top b x q → Summed near start D top b near (walk fuel near x D top q)) →
-        Summed near start D top b near (elim c [ true ↦ walk fuel near (nextEnd near y D) D top (joined top sum (slicePair (nextEnd near y D) y D)) | false ↦ sum ])
-    go true e f =
-        let l = ltb-true near y e in
-        let n = next-slice near y D s l in
-        f (nextEnd near y D) _ (omega arith) (omega arith) (model.more r l)
-    go false e f = let l = ltb-false near y e in let i : y ≡ near = omega arith in rw i at r
+    go : D * n ≡ n * D → D * suc n ≡ suc n * D → D * 1 ≡ D → StepIn ((n * D) per D) ((suc n * D) per D) (unitSlice n)
+    go e f g = rw (e, f, g) at (scaled-step D n (suc n) 1 (s .diffusion-some) (unit-slice n h))
+
+half-step : {near D : ℕ} (far k : ℕ) → Stretch near D →
+    StepIn (within (near * powerOfTwo (suc k)) (far * powerOfTwo (suc k)) D per (D * powerOfTwo (suc k)))
+    (within (near * powerOfTwo (suc k)) (far * powerOfTwo (suc k)) (2 * D) per (D * powerOfTwo (suc k))) (halfPart near far D k)
+unfolding halfPart halfSlice
+half-step {near} {D} far k s =
+    part-step (near * powerOfTwo (suc k)) (far * powerOfTwo (suc k)) D (2 * D) (D * powerOfTwo (suc k)) (halfSlice k) (half-scaled k s) (go (omega arith) (omega arith))
+  where
+    go : D * 1 ≡ D → D * 2 ≡ 2 * D → StepIn (D per (D * powerOfTwo (suc k))) ((2 * D) per (D * powerOfTwo (suc k))) (halfSlice k)
+    go e f = rw (e, f) at (scaled-step D 1 2 (powerOfTwo (suc k)) (s .diffusion-some) (half-slice k))
+
+-- the place is the same with all distances and the diffusion doubled
+place-doubled : (near far D k : ℕ) → 0 < D → within (near * powerOfTwo (suc k)) (far * powerOfTwo (suc k)) (2 * D) per (D * powerOfTwo (suc k)) ≈ halfPlace near far D k
+unfolding powerOfTwo
+place-doubled near far D k z = go (omega arith) (omega arith) (omega arith) (twice-within (near * powerOfTwo k) (far * powerOfTwo k) D)
+  where
+    go : near * (2 * powerOfTwo k) ≡ 2 * (near * powerOfTwo k) → far * (2 * powerOfTwo k) ≡ 2 * (far * powerOfTwo k) → D * (2 * powerOfTwo k) ≡ 2 * (D * powerOfTwo k) →
+        within (2 * (near * powerOfTwo k)) (2 * (far * powerOfTwo k)) (2 * D) ≡ 2 * within (near * powerOfTwo k) (far * powerOfTwo k) D →
+        within (near * (2 * powerOfTwo k)) (far * (2 * powerOfTwo k)) (2 * D) per (D * (2 * powerOfTwo k)) ≈ halfPlace near far D k
+    go e f g h = rw (e, f, g, h) (per-scaled 2 (within (near * powerOfTwo k) (far * powerOfTwo k) D) (D * powerOfTwo k) (omega arith) (mul-pos z (power-above-zero k)))
+
+-- no place lies below the near end
+near-first : (near far v D : ℕ) → 0 < D → near per D ≼ within near far v per D
+near-first near far v D z = per-rises D z (within-from near far v)
+
+unscaled : (near D k : ℕ) → 0 < D → near per D ≈ (near * powerOfTwo k) per (D * powerOfTwo k)
+unscaled near D k z = go (omega arith) (omega arith)
+  where
+    go : powerOfTwo k * near ≡ near * powerOfTwo k → powerOfTwo k * D ≡ D * powerOfTwo k → near per D ≈ (near * powerOfTwo k) per (D * powerOfTwo k)
+    go e f = rw (e, f) at (sym≈ (per-scaled (powerOfTwo k) near D (power-above-zero k) z))
 
 module _ (near far D top : ℕ) (s : Stretch near D) (order : near ≤ far) (cap : AtLeast (ofFrac (unit top)) (ln (far per near))) where
-  -- ---- where the walk begins
+  -- ---- where the slices begin
   record Begun (start : ℕ) (b : Pair) : Type 0 where
     term : Frac
     is-far : FarTerm near far D top s cap start term
-    walked : Walked near far D top s cap start term start b
+    walked : Walked near far D top s cap start term (start per D) b
 
   begun-far : (edge : ℕ) → near ≤ edge → edge ≤ far → Begun edge (atMostP (scaledP (record { low = 0; high = top }) (expPair edge D) one) top)
   unfolding scaledP atMostP
@@ -86,11 +107,57 @@ module _ (near far D top : ℕ) (s : Stretch near D) (order : near ≤ far) (cap
           rw (slice-start-far near far D l, far-pair-far near far D top l) (begun-far (max near (farFrom * D)) (omega arith) (omega arith))
       go false e = let l = ltb-false (farFrom * D) far e in rw (slice-start-near near far D l, far-pair-near near far D top l) begun-near
 
-  -- ---- at every stage, and at the end
-  pub summed-encloses : {y : ℕ} {sum : Pair} → Summed near (sliceStart near far D) D top (farPair near far D top) y sum → Encloses one sum (integral (y per D) (far per D))
-  summed-encloses r = walked-encloses near far D top s cap (begun .is-far) (summed-inside s (begun .is-far .from) r)
-      (summed-keeps (Walked near far D top s cap (sliceStart near far D) (begun .term)) s (begun .walked) (λ x y sum c w. walked-further near far D top s cap x y sum c w) r)
+  -- ---- at every stage
+  abbrev start : ℕ
+  start = sliceStart near far D
+
+  abbrev first : Pair
+  first = farPair near far D top
+
+  abbrev At : Frac → Pair → Type 0
+  At p sum = Walked near far D top s cap start (begun .term) p sum
+
+  units-walked : (i : ℕ) → i ≤ units → At (unitPlace near start D i) (unitSum near start D top first i)
+  unfolding unitSum
+  units-walked zero h = rw (start-place near far D order) (begun .walked)
+  units-walked (suc i) h = go (units - i) (omega arith) (omega arith) (units-walked i (omega arith))
+    where
+      go : (n : ℕ) → farFrom - i ≡ suc n → n ≡ farFrom - suc i → At (unitPlace near start D i) (unitSum near start D top first i) →
+          At (unitPlace near start D (suc i)) (joined top (unitSum near start D top first i) (unitPart near start D n))
+      go n e f w = rw (← f) (walked-further near far D top s cap (unitSum near start D top first i) (unit-step start n s (omega arith)) (rw e at w))
+
+  abbrev downToOne : Pair
+  downToOne = unitSum near start D top first units
+
+  halves-walked : (k : ℕ) → At (halfPlace near start D k) (halfSum near start D top downToOne k)
+  unfolding halfSum powerOfTwo
+  halves-walked zero = go (omega arith) (omega arith) (omega arith) (omega arith) (units-walked units (omega arith))
+    where
+      go : near * 1 ≡ near → start * 1 ≡ start → D * 1 ≡ D → (farFrom - units) * D ≡ D → At (unitPlace near start D units) downToOne → At (within (near * 1) (start * 1) D per (D * 1)) downToOne
+      go e f g h w = rw (e, f, g) (rw h at w)
+  halves-walked (suc k) =
+      walked-further near far D top s cap (halfSum near start D top downToOne k) (half-step start k s) (walked-same near far D top s cap (place-doubled near start D k (s .diffusion-some)) (halves-walked k))
+
+  -- what is summed after i unit slices, and after k half slices, bounds the integral from the place reached to the far end
+  pub units-enclose : (i : ℕ) → i ≤ units → Encloses one (unitSum near start D top first i) (integral (unitPlace near start D i) (far per D))
+  units-enclose i h = walked-encloses near far D top s cap (begun .is-far) (near-first near start ((farFrom - i) * D) D (s .diffusion-some)) (units-walked i h)
+
+  pub halves-enclose : (k : ℕ) → Encloses one (halfSum near start D top downToOne k) (integral (halfPlace near start D k) (far per D))
+  halves-enclose k =
+      walked-encloses near far D top s cap (begun .is-far)
+      (trans≼ (unscaled near D k (s .diffusion-some) .to) (near-first (near * powerOfTwo k) (start * powerOfTwo k) D (D * powerOfTwo k) (mul-pos (s .diffusion-some) (power-above-zero k))))
+      (halves-walked k)
+
+  -- ---- at the end
+  last-place : near per D ≈ halfPlace near start D halves
+  unfolding powerOfTwo
+  last-place = go (omega (arith, mul-le-mul-right 4294967296 (s .near-some), s .diffusion-small)) (unscaled near D halves (s .diffusion-some))
+    where
+      go : within (near * powerOfTwo halves) (start * powerOfTwo halves) D ≡ near * powerOfTwo halves → near per D ≈ (near * powerOfTwo halves) per (D * powerOfTwo halves) →
+          near per D ≈ halfPlace near start D halves
+      go e f = rw e f
 
   pub heating-integral-encloses : Encloses one (heatingIntegral near far D top) (integral (near per D) (far per D))
   unfolding heatingIntegral
-  heating-integral-encloses = summed-encloses (walk-sums s (sliceStart near far D) (sliceStart near far D) (farPair near far D top) (omega arith) (begun .is-far .from) model.none)
+  heating-integral-encloses =
+      walked-encloses near far D top s cap (begun .is-far) (refl≼ (near per D)) (walked-same near far D top s cap last-place (halves-walked halves))

@@ -1,9 +1,9 @@
 -- The logarithm's pair encloses ln: the doublings and the rest are exact slices laid end to end. The stretch from x to y may be scaled by any c, so
 -- that two logarithms are laid end to end as well: twice the logarithm of y/x is that of y²/x².
 use Prim.Native.Nat.{ℕ, zero, suc, _+_, _*_, _-_, _≤_, _<_}
-use mathlib.Core.Path.{_≡_, refl, ap}
+use mathlib.Core.Path.{_≡_, refl}
 use mathlib.Core.List.{List, [], _∷_, _++_}
-use native.Mathlib.Nat.{mul-pos, mul-le-mul-left, mul-div-mul-left}
+use native.Mathlib.Nat.{mul-pos, mul-le-mul-left}
 use native.Mathlib.Omega.{arith}
 use Rattle.numbers.specs.Fraction.{_≼_, _≈_, _per_, 1F, _⊗_}
 use Rattle.numbers.proofs.Fractions.{trans≼, add≼, refl≈, per-times, per≼}
@@ -15,8 +15,8 @@ use Rattle.exact.proofs.Slices.{Slice, All, none, more, Adjacent, end, next, to
 use Rattle.exact.proofs.Enclosure.{lowArea, highArea, Lower, Upper}
 use Rattle.exact.proofs.LogarithmSlices.{lnExponent}
 use Rattle.model.specs.Scale.{one, mostDoublings}
-use Rattle.model.specs.Series.{thetaOf}
 use Rattle.model.specs.Logarithm.{powerOfTwo, logarithmSlice, doublings, logarithmAfter, logarithm}
+use Rattle.model.proofs.Series.{same-theta}
 use Rattle.model.proofs.Logarithm.{power-above-zero, doublings-in-octave}
 use Rattle.model.specs.Encloses.{unit, Encloses}
 use Rattle.model.proofs.Enclosure.Units.{unit-add, unit≼}
@@ -52,12 +52,6 @@ end-to-end {x} {y} {z} {b} {c} r s = record {
 }
 
 -- ---- one slice, scaled by c
-same-theta : (c x y : ℕ) → 0 < c → x ≤ y → thetaOf (c * x) (c * y) ≡ thetaOf x y
-same-theta c x y z h =
-    let d : y - x + x ≡ y = omega arith in
-    let e : (c * y - c * x) * one ≡ c * ((y - x) * one) = omega (arith, ap (λ t. c * t) d) in
-    rw e (mul-div-mul-left ((y - x) * one) y z)
-
 same-slice : (c x y : ℕ) → 0 < c → x ≤ y → logarithmSlice (c * x) (c * y) ≡ logarithmSlice x y
 unfolding logarithmSlice
 same-slice c x y z h = rw (same-theta c x y z h) refl

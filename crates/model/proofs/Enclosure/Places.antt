@@ -1,7 +1,7 @@
 -- Whole numbers over whole numbers: places on a line whose unit is 1/D, and their distances and ratios.
 use Prim.Native.Nat.{ℕ, zero, suc, _+_, _*_, _-_, _≤_, _<_}
 use mathlib.Core.Path.{_≡_}
-use native.Mathlib.Nat.{mul-le-mul-left, mul-le-mul-right}
+use native.Mathlib.Nat.{mul-pos, mul-le-mul-left, mul-le-mul-right}
 use native.Mathlib.Omega.{arith}
 use Rattle.numbers.specs.Fraction.{_≼_, _≈_, _per_, whole, 1F, _⊕_, _⊗_}
 use Rattle.numbers.proofs.Fractions.{per≼}
@@ -16,6 +16,14 @@ per-distance x y (suc D) z h = let e : x + (y - x) ≡ y = omega arith in rw e a
   where
     sum-per : (a b : ℕ) → a per (suc D) ⊕ b per (suc D) ≈ (a + b) per (suc D)
     sum-per a b = omega arith
+
+-- both times c
+pub per-scaled : (c a D : ℕ) → 0 < c → 0 < D → (c * a) per (c * D) ≈ a per D
+per-scaled c a D z k =
+    record {
+      to = per≼ (c * a) (c * D) a D (mul-pos z k) k (omega arith);
+      from = per≼ a D (c * a) (c * D) k (mul-pos z k) (omega arith);
+    }
 
 -- far/D is at most y/D times far/near
 pub stretched : (near y far D : ℕ) → 0 < near → 0 < D → near ≤ y → far per D ≼ y per D ⊗ far per near
