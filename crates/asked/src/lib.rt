@@ -1,4 +1,5 @@
 // What is asked of a cable or of a sheet: how many numbers it takes, and the hours among them as the factor takes them.
+#![tactic(auto)]
 ghost use Rattle.std.specs.Prelude.{◌≡◌, ◌≤◌, min};
 ghost use Rattle.cycle_rules.specs.Day.{day_hours};
 ghost use Rattle.words.specs.Words.{cable_fields, numbers_room};
@@ -9,7 +10,7 @@ use cycle_rules::DAY_HOURS;
 use words::{CABLE_FIELDS, ROOM};
 
 // What is asked of a cable, or of the sheet in a file.
-#[derive(Drop)]
+#[derive(Clone, Copy)]
 pub enum Asked {
     Share,
     Factor,

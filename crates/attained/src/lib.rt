@@ -1,5 +1,6 @@
 // The attained share of accepted numbers, in fixed point, from the sums of a cable and its neighbours. Document 01, 'The attained share', and
 // document 02, note 2.
+#![tactic(auto)]
 ghost use Rattle.std.specs.Prelude.{◌≡◌, ◌*◌};
 ghost use Rattle.bounds.specs.Pair.{as_bounds, as_pair, less_p};
 ghost use Rattle.bounds.specs.Promises.{QuotientRoom};
@@ -13,7 +14,7 @@ use bounds::Bounds;
 use series::ONE;
 
 // The sources of heat summed so far: the numerator and the divisor of beta, in units of 2^-30.
-#[derive(Drop)]
+#[derive(Clone, Copy)]
 pub struct Sums {
     pub heat: Bounds,
     pub logarithm: Bounds,

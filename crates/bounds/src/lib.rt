@@ -1,4 +1,5 @@
 // Pairs of bounds, added, negated, multiplied and divided as one thing, and division of signed numbers rounded down and up.
+#![tactic(auto)]
 ghost use Rattle.std.specs.Prelude.{◌≡◌, true, ◌<◌, ◌≤◌, ◌^◌, T, pos, negsuc, nat_abs};
 ghost use Rattle.std.specs.Int.Signed.{mag, lt_z, non_neg};
 ghost use Rattle.numbers.specs.Integer.{up, lesser, greater};
@@ -8,7 +9,7 @@ ghost use Rattle.bounds.specs.Promises.{Sized, largest, ScaledRoom, QuotientRoom
 ghost use Rattle.bounds.specs.Promises.{Point, Sum, Negation, Product, ScaledProduct, Quotient, Multiple, Divided, Cut, Floor, Ceiling};
 
 // A lower and an upper bound of a number, in whole units.
-#[derive(Drop)]
+#[derive(Clone, Copy)]
 pub struct Bounds {
     pub low: i64,
     pub high: i64,

@@ -1,8 +1,9 @@
 // A cable, and what its checks 2 and 3 find: types, definitions and laws.
+#![tactic(auto)]
 use refusals::Refusal;
 
 // The fields in the order and the units of document 01's table; a diffusivity of 0 stands for the default.
-#[derive(Drop)]
+#[derive(Clone, Copy)]
 pub struct Cable {
     pub diameter: u32,
     pub depth: u32,
@@ -15,7 +16,7 @@ pub struct Cable {
 }
 
 // The cable as it is, or its first refusal in the order 2, 3.
-#[derive(Drop)]
+#[derive(Clone, Copy)]
 pub enum CableCheck {
     Accepted(Cable),
     Refused(Refusal),

@@ -9,7 +9,7 @@ use Rattle.numbers.specs.Signed.{Signed, ◌≼ₛ◌, ◌≺ₛ◌, of_frac, ad
 use Rattle.numbers.proofs.Fractions.{refl≼, zero≼, one_above}
 use Rattle.numbers.proofs.Strict.{half, half_above}
 use Rattle.numbers.proofs.SignedFractions.{trans≼ₛ, of_frac≼, of_frac≺, of_frac_below, le_strictₛ, strict_leₛ}
-use Rattle.exact.specs.Value.{Value, AtMost, AtLeast, ◌⊴◌, Fine, from_one, number, exp_neg, ln, ◌−ᵥ◌, ◌·ᵥ◌}
+use Rattle.exact.specs.Value.{◌+ᵥ◌, Value, AtMost, AtLeast, ◌⊴◌, Fine, from_one, number, exp_neg, ln, ◌−ᵥ◌, ◌·ᵥ◌}
 use Rattle.exact.specs.Share.{CableNumbers, Source, sources, Accepted, millionths, exponent, ratio, attainment, heating, source_heating, source_log, with_heatings, with_logs, beta, surface, share}
 use Rattle.exact.proofs.Plain.{Plain, and_0, and_1, known, add_p, mul_p, known⊴ₚ}
 use Rattle.exact.proofs.Values.{lift, lift⊴, at_least_join, fine_lift, gap_below}
@@ -42,11 +42,11 @@ module _ (c : CableNumbers) (m : ℕ) (a : Accepted c m) where
 
   heatings_plain : {v : Value} (own : Plain) (xs : List Source) → v ≐ lift own → with_heatings c.s m v xs ≐ lift (heating_on c.s m own xs)
   heatings_plain own [] e = e
-  heatings_plain own (x ∷ xs) e = heatings_plain (add_p own (source_heating_p c.s m x)) xs (trans≐ (add≐ e (refl≐ (source_heating c.s m x))) (lift_add own (source_heating_p c.s m x)))
+  heatings_plain {v = v} own (x ∷ xs) e = heatings_plain {v = v +ᵥ (source_heating c.s m x)} (add_p own (source_heating_p c.s m x)) xs (trans≐ (add≐ e (refl≐ (source_heating c.s m x))) (lift_add own (source_heating_p c.s m x)))
 
   logs_plain : {v : Value} (own : Plain) (xs : List Source) → v ≐ lift own → with_logs v xs ≐ lift (log_on own xs)
   logs_plain own [] e = e
-  logs_plain own (x ∷ xs) e = logs_plain (add_p own (source_log_p x)) xs (trans≐ (add≐ e (refl≐ (source_log x))) (lift_add own (source_log_p x)))
+  logs_plain {v = v} own (x ∷ xs) e = logs_plain {v = v +ᵥ (source_log x)} (add_p own (source_log_p x)) xs (trans≐ (add≐ e (refl≐ (source_log x))) (lift_add own (source_log_p x)))
 
   pub beta_plain : beta c m ≐ lift (beta_p c m)
   beta_plain = quot_same (group_heating_p c m) (group_log_p c) (group_heating_rises_p c m m a a (le_refl m)) (group_log⊴ₚ c) (heatings_plain (heating_p c m) (sources c) (refl≐ (heating c m))) (logs_plain (log_p c) (sources c) (refl≐ (ln (ratio c))))

@@ -112,11 +112,11 @@ log_on own (x ∷ xs) = log_on (add_p own (source_log_p x)) xs
 
 pub log_on⊴ₚ : {own : Plain} (xs : List Source) → own ⊴ₚ own → log_on own xs ⊴ₚ log_on own xs
 log_on⊴ₚ [] h = h
-log_on⊴ₚ (x ∷ xs) h = log_on⊴ₚ xs (add⊴ₚ h (source_log⊴ₚ x))
+log_on⊴ₚ {own = own} (x ∷ xs) h = log_on⊴ₚ {own = add_p own (source_log_p x)} xs (add⊴ₚ h (source_log⊴ₚ x))
 
 pub fine_log_on : {own : Plain} (xs : List Source) → FineP own → FineP (log_on own xs)
 fine_log_on [] f = f
-fine_log_on (x ∷ xs) f = fine_log_on xs (fine_p_add f (fine_p_ln 1F (source_beyond x) one_above))
+fine_log_on {own = own} (x ∷ xs) f = fine_log_on {own = add_p own (ln_p 1F (source_beyond x))} xs (fine_p_add f (fine_p_ln 1F (source_beyond x) one_above))
 
 -- what is at most the cable's own lower fraction is at most that of the sum
 more_is_no_less : {f : Frac} (a b : Frac) → f ≼ a → f ≼ a ⊕ b
@@ -137,11 +137,11 @@ log_on_own own n (x ∷ xs) h = and_0 (own.ok n) (from_one n) (log_on_own (add_p
 module _ (s : ℕ) (m : ℕ) where
   pub fine_heating_on : Soil s m → {own : Plain} {xs : List Source} → AllApart xs → FineP own → FineP (heating_on s m own xs)
   fine_heating_on t none f = f
-  fine_heating_on t (more {x} {xs} a r) f = fine_heating_on t r (fine_p_add f (fine_source_heating_p s m t x a))
+  fine_heating_on t {own = own} (more {x = x} {xs = xs} a r) f = fine_heating_on t {own = add_p own (source_heating_p s m x)} r (fine_p_add f (fine_source_heating_p s m t x a))
 
   pub heating_on⊴log_on : Soil s m → {own log : Plain} {xs : List Source} → AllApart xs → own ⊴ₚ log → heating_on s m own xs ⊴ₚ log_on log xs
   heating_on⊴log_on t none h = h
-  heating_on⊴log_on t (more {x} {xs} a r) h = heating_on⊴log_on t r (add⊴ₚ h (source_heating⊴log s m t x a))
+  heating_on⊴log_on t {own = own} {log = log} (more {x = x} {xs = xs} a r) h = heating_on⊴log_on t {own = add_p own (source_heating_p s m x)} r (add⊴ₚ h (source_heating⊴log s m t x a))
 
   pub heating_on_least : (own : Plain) {f : Frac} (n : ℕ) (xs : List Source) → f ≼ own.low n → f ≼ (heating_on s m own xs).low n
   heating_on_least own n [] h = h
@@ -153,4 +153,4 @@ module _ (s : ℕ) (m : ℕ) where
 
 pub heating_on_rises : (s m m' : ℕ) → Soil s m → Soil s m' → m ≤ m' → {own own' : Plain} {xs : List Source} → AllApart xs → own ⊴ₚ own' → heating_on s m own xs ⊴ₚ heating_on s m' own' xs
 heating_on_rises s m m' t t' h none k = k
-heating_on_rises s m m' t t' h (more {x} {xs} a r) k = heating_on_rises s m m' t t' h r (add⊴ₚ k (source_heating_rises_p s m m' t t' h x a))
+heating_on_rises s m m' t t' h {own = own} {own' = own'} (more {x = x} {xs = xs} a r) k = heating_on_rises s m m' t t' h {own = add_p own (source_heating_p s m x)} r (add⊴ₚ k (source_heating_rises_p s m m' t t' h x a))

@@ -1,4 +1,5 @@
 // What the desk is told besides answers: help, version, what a refusal and its place mean, and what is no question.
+#![tactic(auto)]
 mod explain;
 mod say;
 mod usage;

@@ -4,7 +4,7 @@ use mathlib.Core.Path.{◌≡◌, refl, sym, ◌∙◌}
 use mathlib.Core.Bool.{Bool, true, false, ◌&&◌, and-false}
 use Prim.Native.Nat.{ℕ, zero, suc, ◌+◌, ◌*◌, ◌-◌, ◌≤◌, ◌<◌, min, max}
 use lib.Dec.{ltb, leb}
-use borrow.Author.Tests.{lt-ltb, le-ltb, le-leb, lt-leb, ltb-true, ltb-false, leb-true, leb_false}
+use borrow.Author.Tests.{lt-ltb, le-ltb, le-leb, lt-leb, ltb-true, ltb-false, leb-true, leb-false}
 use native.Mathlib.Nat.{zero-add, suc-add, le_of_lt, mul-le-mul_left, mul-le-mul_right}
 use native.Mathlib.Omega.{arith}
 use Rattle.bounds.specs.Pair.{Pair, add_p, at_most_p}
@@ -86,7 +86,7 @@ same_end near far x y h k = go (leb y near) refl (leb far x) refl
       where
         both : far ≤ x → within near far x ≡ within near far y
         both w = omega arith
-    go false e false f = let v = leb_false y near e in let w = leb_false far x f in both (crossed v w)
+    go false e false f = let v = leb-false y near e in let w = leb-false far x f in both (crossed v w)
       where
         crossed : near < y → x < far → far ≤ near
         crossed v w = omega arith
@@ -131,8 +131,8 @@ part_case near far x y diffusion all s = go (leb near x) refl (leb y far) refl
         let v = leb-true near x e in
         let w = leb-true y far f in
         whole (inside_low v s.order w) (inside_high v s.order w) (passed_falls near far x y (le_of_lt s.order))
-    go true e false f = let w = leb_false y far f in any_case near far x y diffusion all s (omega arith)
-    go false e c f = let w = leb_false near x e in any_case near far x y diffusion all s (omega arith)
+    go true e false f = let w = leb-false y far f in any_case near far x y diffusion all s (omega arith)
+    go false e c f = let w = leb-false near x e in any_case near far x y diffusion all s (omega arith)
 
 -- ---- the slices between knots are slices
 pub unit_slice_lem : (n : ℕ) → 0 < n → Slice n (suc n) 1
@@ -235,9 +235,9 @@ part_capped near far x y diffusion all = go (leb y far) refl (leb near x) refl
         let w = leb-true y far e in
         sym (part_whole near (min far y) x y diffusion all v (omega arith)) ∙ part_whole near far x y diffusion all v w
     go true e false f =
-        let v = leb_false near x f in
+        let v = leb-false near x f in
         sym (part_not_near near (min far y) x y diffusion all v) ∙ rw cap (part_not_near near far x y diffusion all v)
-    go false e c f = let w = leb_false y far e in let m : min far y ≡ far = omega arith in rw m refl
+    go false e c f = let w = leb-false y far e in let m : min far y ≡ far = omega arith in rw m refl
 
 -- ---- after the near end there is nothing more
 part_none : (near far x y diffusion : ℕ) (all : Pair) → x < y → y ≤ near → part_slice near far x y diffusion all ≡ exactly 0

@@ -19,7 +19,7 @@ seen z = to_z w64 (of_z w64 z)
 
 -- the result of a call comes with the bare bound
 pub result_seen : (z : ℤ) → mag z < 2 ^ 63 → seen z ≡ z
-result_seen z h = to_z-of_z (record { sfits = h })
+result_seen z h = to_z-of_z {w = w64} {z = z} (record { sfits = h })
 
 -- what is known of an argument as it is seen is known of it
 pub seen_up : (z : ℤ) {n : ℕ} → SFits w64 z → n ≡ up (seen z) → n ≡ up z

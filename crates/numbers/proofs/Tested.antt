@@ -3,7 +3,7 @@ use mathlib.Core.Path.{◌≡◌, refl}
 use mathlib.Core.Bool.{Bool, true, false, ◌&&◌}
 use Prim.Native.Nat.{ℕ, zero, suc, ◌<◌}
 use lib.Dec.{T, leb}
-use borrow.Author.Tests.{leb_true, leb-false}
+use borrow.Author.Tests.{leb-true, leb-false}
 use mir.Facts.{and_yes}
 use native.Mathlib.Omega.{arith}
 
@@ -18,5 +18,5 @@ at_each f zero k t h = absurd (omega arith)
 at_each f (suc n) k t h = let p = and_yes (f n) (passes f n) t in go (leb n k) refl p.0 (λ w. at_each f n k p.1 w)
   where
     go : (b : Bool) → leb n k ≡ b → T (f n) → (k < n → T (f k)) → T (f k)
-    go true e u v = let w = leb_true n k e in let q : k ≡ n = omega arith in rw q u
+    go true e u v = let w = leb-true n k e in let q : k ≡ n = omega arith in rw q u
     go false e u v = v (leb-false n k e)

@@ -1,4 +1,5 @@
 // Every calculation from the shell: `rating COMMAND NUMBERS` or `rating COMMAND FILE NUMBERS` prints one line of answer.
+#![tactic(auto)]
 ghost use Rattle.std.specs.Prelude.{◌≤◌};
 ghost use Rattle.text.specs.Writing.{line_room};
 

@@ -8,7 +8,7 @@ use cable_rules::Cable;
 use refusals::Parts;
 use text::Number;
 
-#[derive(Drop)]
+#[derive(Clone, Copy)]
 pub enum Kind {
     Share,
     Factor,
@@ -60,7 +60,7 @@ fn skips(word: &[u8]) -> bool
     text::same(word, b"program")
 }
 
-#[derive(Drop)]
+#[derive(Clone, Copy)]
 pub enum Answer {
     Said(Parts),
     Unreadable,
@@ -178,7 +178,7 @@ fn current_in_sheet(inputs: &[u8]) -> Answer
     Answer::Said(emergency::parts(emergency::current_in_sheet(&bytes[..length], h, r, minutes)))
 }
 
-#[derive(Drop)]
+#[derive(Clone, Copy)]
 pub enum CableRead {
     Read(Cable),
     Unreadable,

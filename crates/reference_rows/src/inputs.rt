@@ -8,7 +8,7 @@ use cycle_rules::DAY_HOURS;
 use text::Number;
 
 // The amperes of a day, and whether all of them could be read.
-#[derive(Drop)]
+#[derive(Clone, Copy)]
 pub struct Day {
     pub hours: [u16; DAY_HOURS],
     pub whole: bool,
@@ -48,7 +48,7 @@ fn day_of(list: &[u8]) -> Day
 const SHEET_ROOM: usize = 1024;
 
 // The first `length` bytes are the sheet. There is none, where that is 0: no row has a sheet of no bytes.
-#[derive(Drop)]
+#[derive(Clone, Copy)]
 pub struct Sheet {
     pub bytes: [u8; SHEET_ROOM],
     pub length: usize,

@@ -1,5 +1,6 @@
 // Runs the reference's rows of shares, factors and currents through the public calls, and says of each whether the answer is one that the row allows.
 // The rows stand in the files of this crate's data folder: all of false.tsv are false on purpose, and none of unreadable.tsv can be read.
+#![tactic(auto)]
 ghost use Rattle.std.specs.Prelude.{◌+◌, ◌≤◌, ◌<◌, length};
 ghost use Rattle.report.specs.Reading.{Within};
 ghost use Rattle.reference_rows.specs.Counting.{rows_in, table_room, most_rows};
@@ -18,7 +19,7 @@ use verdicts::Verdict;
 // In bytes. A longer file is told, and not cut.
 const TABLE_ROOM: usize = 65536;
 
-#[derive(Drop)]
+#[derive(Clone, Copy)]
 struct Counts {
     inside: u64,
     outside: u64,

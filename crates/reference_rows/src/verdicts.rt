@@ -7,7 +7,7 @@ use crate::{cells, results};
 use refusals::Parts;
 use text::{Number, Signed};
 
-#[derive(Drop)]
+#[derive(Clone, Copy)]
 pub enum Verdict {
     Inside,
     Outside,

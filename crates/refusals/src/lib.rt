@@ -1,4 +1,5 @@
 // What a refusal is: its number and its place; and what an answer states, taken apart and put together.
+#![tactic(auto)]
 ghost use Rattle.std.specs.Prelude.{◌≡◌, [], ◌∷◌, pos};
 ghost use Rattle.refusals.specs.Stated.{place_kind, place_number, kind_number, stated_values, stated_refusal};
 ghost use Rattle.refusals.specs.Apart.{parts_of, place_of, refusal_in};
@@ -6,7 +7,7 @@ ghost use Rattle.refusals.specs.Apart.{parts_of, place_of, refusal_in};
 use bounds::Bounds;
 
 // A field, a record, an hour or an input, by its number, or none.
-#[derive(Drop)]
+#[derive(Clone, Copy)]
 pub enum Place {
     None,
     Field(u8),
@@ -15,7 +16,7 @@ pub enum Place {
     Input(u8),
 }
 
-#[derive(Drop)]
+#[derive(Clone, Copy)]
 pub struct Refusal {
     pub number: u8,
     pub place: Place,
@@ -48,7 +49,7 @@ fn kind_number(place: Place) -> u8
 }
 
 // What an answer states: the refusal's number, 0 for none, the kind and the number of its place, how many values there are, and the values.
-#[derive(Drop)]
+#[derive(Clone, Copy)]
 pub struct Parts {
     pub number: u8,
     pub kind: u8,

@@ -1,4 +1,5 @@
 // What a program reads and prints: a sheet from a descriptor, and an answer as one line.
+#![tactic(auto)]
 ghost use Rattle.std.specs.Prelude.{◌≤◌};
 ghost use Rattle.text.specs.Writing.{line_room};
 ghost use Rattle.lines.specs.Lines.{Says};
@@ -11,7 +12,7 @@ use libc::STDOUT_FILENO;
 use text::Line;
 
 // How many bytes were read before the input ended or the buffer was full, or that a read failed.
-#[derive(Drop)]
+#[derive(Clone, Copy)]
 pub enum Input {
     Length(usize),
     Failed,
@@ -37,14 +38,14 @@ pub fn read_input(descriptor: i32, buffer: &mut [u8]) -> Input
 }
 
 // The answer for the bytes that were read, or that they could not be read.
-#[derive(Drop)]
+#[derive(Clone, Copy)]
 pub enum Outcome {
     Answer(RiseAnswer),
     Unread,
 }
 
 // By which loop the chain of a sheet is walked. The answer is the same.
-#[derive(Drop)]
+#[derive(Clone, Copy)]
 pub enum Walk {
     Plain,
     ByReader,

@@ -1,4 +1,5 @@
 // Prints an answer of each kind, for the line that document 01 asks for: "a negative number with a leading minus sign", and 0 for no place.
+#![tactic(auto)]
 use bounds::Bounds;
 use history::RiseAnswer;
 use refusals::{Place, Refusal};

@@ -1,4 +1,5 @@
 // Reads a sheet from standard input and prints its rise as `rise` does, with the chain walked by the reader. What is no answer goes to standard error.
+#![tactic(auto)]
 use libc::{STDERR_FILENO, STDIN_FILENO};
 use report::{Outcome, Walk};
 

@@ -2,6 +2,7 @@
 // HIGH_MAX. For it `inside` is printed where low and high are in their ranges, and `outside` where not. The chain of each sheet is walked by the reader, too:
 // where its answer differs, it is printed on the next line, and the last line counts the sheets and those with two answers alike. A name, `against` and a
 // second name hold the first sheet's answer by the plain walk to the second one's by the reader: `alike` or `differ` is printed.
+#![tactic(auto)]
 ghost use Rattle.std.specs.Prelude.{◌≡◌, true, false, ◌≤◌, ◌<◌};
 ghost use Rattle.rise_files.specs.Words.{most_words};
 
@@ -15,7 +16,7 @@ use text::Signed;
 const MOST_WORDS: usize = 4096;
 
 // How many sheets had a line of their own, and for how many of them both walks gave the same answer.
-#[derive(Drop)]
+#[derive(Clone, Copy)]
 struct Counts {
     sheets: u64,
     alike: u64,

@@ -2,6 +2,7 @@
 // cable diameters at a depth of 1 m and a soil diffusivity of 0.5e-6 m²/s. Prints how many of the 315 values agree within 0.001 plus the width of the
 // pair. The two misprints stand mended in the table: as printed their columns sum to 0.991 instead of 1.000. They are run as printed too, with two
 // more values that are false on purpose, one to each side.
+#![tactic(auto)]
 ghost use Rattle.std.specs.Prelude.{◌≡◌, ◌≤◌};
 ghost use Rattle.distance.specs.Promised.{Millionths};
 ghost use Rattle.table_1972.specs.Agreement.{surface_cable, table_cable, share_after, InMillionths};
@@ -13,7 +14,7 @@ use libc::STDOUT_FILENO;
 use share::ShareAnswer;
 
 // A pair in millionths, neither end below 0.
-#[derive(Drop)]
+#[derive(Clone, Copy)]
 struct Ends {
     low: u32,
     high: u32,

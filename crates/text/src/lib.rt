@@ -1,4 +1,5 @@
 // Decimal numbers as bytes: read from a text, and written into a line.
+#![tactic(auto)]
 ghost use Rattle.std.specs.Prelude.{◌≡◌, [], ◌+◌, ◌-◌, ◌<◌, ◌≤◌, nat_abs, length};
 ghost use Rattle.text.specs.Reading.{zero_digit, is_digit, spelled_by, number_of, same_bytes};
 ghost use Rattle.text.specs.Reading.{beyond_signed, with_sign, has_minus, as_integer, signed_of};
@@ -11,21 +12,21 @@ const BEYOND_SIGNED: u64 = 1000000000000000000;
 const NUMBER_ROOM: usize = 20;
 
 // A number as it is asked for, or that the text is no whole number.
-#[derive(Drop)]
+#[derive(Clone, Copy)]
 pub enum Number {
     Whole(u32),
     NotWhole,
 }
 
 // A number with or without a minus sign, or that the text is none of 18 digits at most.
-#[derive(Drop)]
+#[derive(Clone, Copy)]
 pub enum Signed {
     Integer(i64),
     NotInteger,
 }
 
 // What digits spell, or that the text is not of digits only.
-#[derive(Drop)]
+#[derive(Clone, Copy)]
 enum Spelled {
     Value(u64),
     NotDigits,
@@ -126,7 +127,7 @@ pub fn same(a: &[u8], b: &[u8]) -> bool
 const LINE_ROOM: usize = 80;
 
 // A line of output in the making: its first `length` bytes are written.
-#[derive(Drop)]
+#[derive(Clone, Copy)]
 pub struct Line {
     pub bytes: [u8; LINE_ROOM],
     pub length: usize,

@@ -1,4 +1,5 @@
 // What is typed after `rating`: the whole numbers among the words; and the commands, passed on.
+#![tactic(auto)]
 ghost use Rattle.std.specs.Prelude.{◌≡◌, ◌≤◌};
 ghost use Rattle.words.specs.Words.{after_file, first_number, numbers_room, ReadSaid};
 
@@ -20,14 +21,14 @@ pub const CABLE_FIELDS: usize = 8;
 pub const ROOM: usize = CABLE_FIELDS + DAY_HOURS;
 
 // Why numbers are not all there: another count of words than wanted, or the first, counted from 1, that is no whole number.
-#[derive(Drop)]
+#[derive(Clone, Copy)]
 pub enum Fault {
     None,
     Count,
     NotWhole(usize),
 }
 
-#[derive(Drop)]
+#[derive(Clone, Copy)]
 pub struct Numbers {
     pub values: [u32; ROOM],
     pub fault: Fault,

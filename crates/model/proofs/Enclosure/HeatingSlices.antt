@@ -6,7 +6,7 @@ use mathlib.Core.Bool.{Bool, true, false}
 use mathlib.Core.List.{List, [], ◌∷◌}
 use mathlib.Core.Logic.{◌⊎◌, inl, inr}
 use lib.Dec.{ltb}
-use borrow.Author.Tests.{ltb_true, ltb-false}
+use borrow.Author.Tests.{ltb-true, ltb-false}
 use native.Mathlib.Nat.{le_of_lt}
 use native.Mathlib.Omega.{arith}
 use Rattle.numbers.specs.Fraction.{Frac, ◌≼◌, ◌≈◌, ◌per◌, 0F, ◌⊕◌, ◌⊗◌, ◌∸◌}
@@ -145,7 +145,7 @@ module _ (near far D top : ℕ) (s : Stretch near D) (cap : AtLeast (of_frac (un
       go (inl k) = cut sum.high k (ltb sum.high top) refl
         where
           cut : (h : ℕ) → total (high_area heat_exponent) w.slices ⊕ F ≼ unit h → (c : Bool) → ltb h top ≡ c → (total (high_area heat_exponent) w.slices ⊕ F ≼ unit (min (h + 0) top)) ⊎ (top ≤ min (h + 0) top)
-          cut h u true e = let l = ltb_true h top e in let m : min (h + 0) top ≡ h = omega arith in inl (rw m u)
+          cut h u true e = let l = ltb-true h top e in let m : min (h + 0) top ≡ h = omega arith in inl (rw m u)
           cut h u false e = let l = ltb-false h top e in inr (omega arith)
   walked_further {start} {F} {p} {q} {b} sum (slice z i e f) w =
       record {
@@ -169,7 +169,7 @@ module _ (near far D top : ℕ) (s : Stretch near D) (cap : AtLeast (of_frac (un
         where
           cut : (h : ℕ) → unit h ≈ unit sum.high ⊕ unit b.high → (c : Bool) → ltb h top ≡ c → (here ⊕ rest ⊕ F ≼ unit (min h top)) ⊎ (top ≤ min h top)
           cut h u true e =
-              let l = ltb_true h top e in
+              let l = ltb-true h top e in
               let m : min h top ≡ h = omega arith in
               inl (rw m (q_from (unit h ∷ here ∷ rest ∷ F ∷ unit sum.high ∷ unit b.high ∷ [])
               (le (qn 1) (qv 1) (qv 5) ∷ le (qn 1) (qv 2 +' qv 3) (qv 4) ∷ eq (qn 0) (qn 1) (qv 0) (qv 4 +' qv 5) ∷ []) (qv 1 +' qv 2 +' qv 3) (qv 0) tt

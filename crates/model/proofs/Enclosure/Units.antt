@@ -3,7 +3,7 @@ use Prim.Native.Nat.{ℕ, zero, suc, ◌+◌, ◌*◌, ◌/◌, ◌≤◌, ◌<�
 use mathlib.Core.Path.{◌≡◌, refl}
 use mathlib.Core.Bool.{Bool, true, false}
 use lib.Dec.{ltb}
-use borrow.Author.Tests.{ltb_true, ltb_false}
+use borrow.Author.Tests.{ltb-true, ltb-false}
 use native.Mathlib.Nat.{div-mul-le_self, lt-div-mul-add}
 use native.Mathlib.Omega.{arith}
 use Rattle.numbers.specs.Fraction.{Frac, ◌≼◌, ◌≈◌, ◌per◌, whole, 1F, ◌⊕◌, ◌⊗◌}
@@ -75,5 +75,5 @@ pub of_lesser : (P : ℕ → Type 0) (u v : ℕ) → P u → P v → P (min u v)
 of_lesser P u v p q = go (ltb u v) refl
   where
     go : (b : Bool) → ltb u v ≡ b → P (min u v)
-    go true e = let w = ltb_true u v e in let m : min u v ≡ u = omega arith in rw m p
-    go false e = let w = ltb_false u v e in let m : min u v ≡ v = omega arith in rw m q
+    go true e = let w = ltb-true u v e in let m : min u v ≡ u = omega arith in rw m p
+    go false e = let w = ltb-false u v e in let m : min u v ≡ v = omega arith in rw m q

@@ -1,0 +1,12 @@
+-- Each end is cast as it is. Assumes nothing.
+use mathlib.Core.Path.{◌∙◌}
+use borrow.Author.Rules.{rules}
+use Rattle.numbers.proofs.Machine.{result_seen}
+use Rattle.bounds.proofs.Enclosure.{same_ends}
+use Rattle.bounds.proofs.from_naturals.Goals as goal
+
+pub returns : goal.returns
+returns c =
+    let l = c.signed in
+    let h = c.signed-2 in
+    same_ends (result_seen l.result l.type_inv ∙ l.ensures) (result_seen h.result h.type_inv ∙ h.ensures)

@@ -1,0 +1,18 @@
+-- `cycle::factor` answers for what a cable gives. Assumes nothing.
+use mathlib.Core.Path.{sym}
+use borrow.Author.Rules.{rules}
+use borrow.Kind.Array.{good_length, e_int}
+use mir.Syntax.{w16}
+use Rattle.cycle_rules.specs.Day.{day_hours}
+use Rattle.cable_rules.proofs.Acceptance.{given_sound}
+use Rattle.cycle_rules.proofs.Answers.{answer_given}
+use Rattle.cycle_rules.proofs.Said.{said}
+use Rattle.cycle.proofs.factor.Goals as goal
+
+pub factor_given-requires : goal.factor_given-requires
+factor_given-requires c = (c.given_alone.ensures _).laid
+
+pub returns : goal.returns
+returns c =
+    said (given_sound _) (good_length (e_int w16) day_hours c.args.hours _ c.well_formed.1.0)
+    (answer_given _ (sym (c.given_alone.ensures _).answer) c.factor_given.ensures)

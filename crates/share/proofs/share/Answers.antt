@@ -1,0 +1,13 @@
+-- `share::share` answers for what a cable gives. Assumes nothing.
+use mathlib.Core.Path.{sym}
+use borrow.Author.Rules.{rules}
+use Rattle.cable_rules.proofs.Acceptance.{given_sound}
+use Rattle.share_rules.proofs.Answers.{answer_given}
+use Rattle.share_rules.proofs.Promises.{said}
+use Rattle.share.proofs.share.Goals as goal
+
+pub share_given-requires : goal.share_given-requires
+share_given-requires c = (c.given_alone.ensures _).laid
+
+pub returns : goal.returns
+returns c = said (given_sound _) (answer_given _ (sym (c.given_alone.ensures _).answer) c.share_given.ensures)

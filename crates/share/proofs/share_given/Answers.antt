@@ -1,0 +1,15 @@
+-- `share::share_given` hands on the refusal of what was handed in, or answers for what is given. Assumes nothing.
+use mathlib.Core.Path.{ap}
+use borrow.Author.Rules.{rules}
+use Rattle.sheet_rules.specs.Sheet.{as_given_in}
+use Rattle.share_rules.proofs.Answers.{answer_given, answer_refused}
+use Rattle.share.proofs.share_given.Goals as goal
+
+pub share_of-requires : goal.share_of-requires
+share_of-requires c = c.requires _ c.in-Accepted.is
+
+pub returns-in-Accepted : goal.returns-in-Accepted
+returns-in-Accepted c = answer_given _ (ap (as_given_in _) c.in-Accepted.is) c.share_of.ensures
+
+pub returns-in-Refused : goal.returns-in-Refused
+returns-in-Refused c = answer_refused _ (ap (as_given_in _) c.in-Refused.is)

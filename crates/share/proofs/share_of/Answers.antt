@@ -1,0 +1,18 @@
+-- `share::share_of` refuses the minutes or gives the pair. Assumes nothing.
+use mathlib.Core.Path.{sym, ap, ◌∙◌}
+use borrow.Author.Rules.{rules}
+use Rattle.share_rules.specs.declared.ShareAnswer.TheVariants.{Pair}
+use Rattle.share_rules.proofs.Answers.{minutes_refused, minutes_accepted, share_given}
+use Rattle.share.proofs.share_of.Goals as goal
+
+pub returns-then-outside : goal.returns-then-outside
+returns-then-outside c = minutes_refused _ _ (sym c.outside.ensures ∙ c.if-outside.true)
+
+pub pair_of-requires : goal.pair_of-requires
+pair_of-requires c =
+    let laid = c.requires in
+    record { laid = laid; accepted = minutes_accepted _ _ (sym c.outside.ensures ∙ c.if-outside.false) laid.acceptable }
+
+pub returns : goal.returns
+returns c =
+    ap Pair c.pair_of.ensures ∙ share_given _ _ (sym c.outside.ensures ∙ c.if-outside.false)
