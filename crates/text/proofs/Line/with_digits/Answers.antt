@@ -8,10 +8,10 @@ use Rattle.text.proofs.Line.with_digits.Goals as goal
 
 pub with-requires : goal.with-requires
 with-requires c =
-    let added : take c.decimal-count.result c.decimal-count.new.out ≡ decimal_text c.args.n = ? in
+    let added : take c.decimal-count.result c.decimal-count.new.out ≡ decimal_text c.args.n = c.decimal-count.ensures.digits ∙ as_written c.decimal-count.result c.args.n c.decimal-count.ensures.len in
     rw added c.requires
 
 pub returns : goal.returns
 returns c =
-    let added : take c.decimal-count.result c.decimal-count.new.out ≡ decimal_text c.args.n = ? in
+    let added : take c.decimal-count.result c.decimal-count.new.out ≡ decimal_text c.args.n = c.decimal-count.ensures.digits ∙ as_written c.decimal-count.result c.args.n c.decimal-count.ensures.len in
     rw added at c.with.ensures
