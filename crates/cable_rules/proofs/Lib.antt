@@ -1,1 +1,2 @@
 pub mod Acceptance
+mod Examples

@@ -3,4 +3,3 @@ pub mod Group
 pub mod Stated
 pub mod InRange
 pub mod Promises
-pub mod Examples

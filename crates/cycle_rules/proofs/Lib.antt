@@ -11,3 +11,4 @@ pub mod NeverPastOne
 pub mod UnderTheCap
 pub mod Said
 pub mod NotNegative
+mod Examples

@@ -4,4 +4,3 @@ pub mod Factor
 pub mod Exact
 pub mod Answer
 pub mod Asked
-pub mod Examples

@@ -2,4 +2,3 @@ pub mod Certifying
 pub mod Exact
 pub mod Answer
 pub mod Asked
-pub mod Examples

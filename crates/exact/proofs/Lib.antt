@@ -21,3 +21,4 @@ pub mod ShareRange
 pub mod SignedShare
 pub mod Pairs
 pub mod Largest
+mod Examples

@@ -2,4 +2,3 @@ pub mod Exponential
 pub mod Cutting
 pub mod Value
 pub mod Share
-mod Examples

@@ -4,3 +4,4 @@ pub mod AtRecord
 pub mod Steps
 pub mod Distance
 pub mod Said
+mod Examples

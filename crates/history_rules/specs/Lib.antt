@@ -2,4 +2,3 @@ pub mod Rise
 pub mod Exact
 pub mod Answer
 pub mod Walk
-pub mod Examples

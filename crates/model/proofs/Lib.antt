@@ -11,3 +11,4 @@ pub mod Share
 pub mod Cable
 pub mod Group
 pub mod Enclosure
+mod Examples

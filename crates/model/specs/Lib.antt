@@ -5,6 +5,5 @@ pub mod Logarithm
 pub mod Integral
 pub mod Share
 pub mod Width
-pub mod Examples
 pub mod Encloses
 pub mod ShareEnclosed

@@ -1,2 +1,3 @@
 pub mod Stated
 pub mod Apart
+mod Examples

@@ -1,3 +1,2 @@
 pub mod Stated
 pub mod Apart
-pub mod Examples

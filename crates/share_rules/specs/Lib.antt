@@ -1,4 +1,3 @@
 pub mod Pair
 pub mod Promises
 pub mod Answer
-pub mod Examples

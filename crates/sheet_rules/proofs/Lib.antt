@@ -7,3 +7,5 @@ pub mod ChainTurns
 pub mod NeighbourChecks
 pub mod EitherChain
 pub mod SheetChecks
+mod Examples
+mod ExamplesOfNeighbours

@@ -8,5 +8,3 @@ pub mod Neighbours
 pub mod Sheet
 pub mod Promises
 pub mod ExampleSheets
-pub mod Examples
-pub mod ExamplesOfNeighbours

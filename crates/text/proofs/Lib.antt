@@ -4,3 +4,4 @@ pub mod Equality
 pub mod Decimal
 pub mod RoundTrip
 pub mod Lines
+mod Examples
