@@ -1,5 +1,6 @@
 // What the desk is told besides answers: help, version, what a refusal and its place mean, and what is no question.
 #![tactic(auto)]
+
 mod explain;
 mod say;
 mod usage;
@@ -9,13 +10,18 @@ pub use say::{complaint, fault, unread};
 pub use usage::complain;
 
 // The version of the product stands here alone.
-pub fn version() {
-    report::put(b"rating 0.1.0\n", b"rating: the version cannot be written");
+pub fn version(rt: &HostRuntime) {
+    report::put(
+        rt,
+        b"rating 0.1.0\n",
+        b"rating: the version cannot be written",
+    );
 }
 
 // One example for each command, in one write: where it is lost, that is told once.
-pub fn help() {
+pub fn help(rt: &HostRuntime) {
     report::put(
+        rt,
         b"A buried cable's ratings, each with a proved distance to the exact value. docs/INPUTS.md explains every number and refusal.
 CABLE is D L S K W FAST SLOW RATED: diameter in 0.1 mm, depth in mm, diffusivity in 1e-9 m2/s (0: 500),
 surface ratio and fast weight in millionths, fast and slow rate in millionths per second, rated amperes; or a load sheet's file.

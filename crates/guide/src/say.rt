@@ -1,25 +1,25 @@
 // What is no answer, on standard error.
-use libc::STDERR_FILENO;
+use std::io::{Error, Print};
 use words::Fault;
 
-pub fn complaint(text: &[u8]) {
-    io::write_all(STDERR_FILENO, text);
+pub fn complaint(rt: &HostRuntime, text: &[u8]) {
+    let _ = rt.stderr().write_all(text);
 }
 
 // Why numbers are not all there.
-pub fn fault(fault: Fault, usage: &[u8]) {
+pub fn fault(rt: &HostRuntime, fault: Fault, usage: &[u8]) {
     match fault {
         Fault::NotWhole(k) => {
-            complaint(b"rating: number ");
-            io::print_decimal(STDERR_FILENO, k as u64);
-            complaint(b" is not a whole number of digits only\n");
+            complaint(rt, b"rating: number ");
+            let _ = rt.stderr().print(k as u64);
+            complaint(rt, b" is not a whole number of digits only\n");
         }
-        _ => complaint(usage),
+        _ => complaint(rt, usage),
     }
 }
 
-// Which file it is, and the reason that the system gave last. Only a write that fails would change that reason, and then nothing is told.
-pub fn unread(path: &[u8]) {
-    complaint(b"rating: the file cannot be read: ");
-    os::fail(path);
+// Which file it is, and the reason that the system gave.
+pub fn unread(rt: &HostRuntime, path: &[u8], error: Error) {
+    complaint(rt, b"rating: the file cannot be read: ");
+    report::fail(rt, path, error);
 }

@@ -1,5 +1,6 @@
 // Every calculation from the shell: `rating COMMAND NUMBERS` or `rating COMMAND FILE NUMBERS` prints one line of answer.
 #![tactic(auto)]
+
 ghost use Rattle.std.specs.Prelude.{◌≤◌};
 ghost use Rattle.text.specs.Writing.{line_room};
 
@@ -7,59 +8,62 @@ mod file;
 
 use asked::Asked;
 use report::Input;
+use std::rt::Env;
 use text::{Line, Number};
 use words::{Command, Fault};
 
-fn main() {
-    let words = os::arg_count();
+fn main(rt: HostRuntime) {
+    let words = report::word_count(&rt);
     if words < 2 {
-        guide::help();
+        guide::help(&rt);
         return;
     }
-    let command = command_given();
+    let command = command_given(&rt);
     match command {
-        Command::Rise => rise_command(words),
-        Command::Explain => explain_command(words),
-        Command::Help => help_command(words),
-        Command::Version => version_command(words),
+        Command::Rise => rise_command(&rt, words),
+        Command::Explain => explain_command(&rt, words),
+        Command::Help => help_command(&rt, words),
+        Command::Version => version_command(&rt, words),
         Command::Unknown => guide::complaint(
+            &rt,
             b"usage: no such command; rating share, factor, current, rise, explain, help or version\n",
         ),
-        _ => calculate(words, command),
+        _ => calculate(&rt, words, command),
     }
 }
 
 // The command that the first word names. A word longer than every name comes as none, which is no name either.
-fn command_given() -> Command {
+fn command_given(rt: &HostRuntime) -> Command {
     let mut word = [0u8; 16];
-    let length = os::arg(1, &mut word);
-    words::command_of(&word[..length])
+    match rt.arg(1, &mut word) {
+        Ok(length) => words::command_of(&word[..length]),
+        Err(_) => words::command_of(b""),
+    }
 }
 
 // A calculation of the cable whose numbers follow the command, or of the sheet in a file that is named first.
-fn calculate(words: usize, command: Command) {
-    let named = names_file(words);
-    let given = words::read(words, named, asked::wanted(asked_by(command), named));
+fn calculate(rt: &HostRuntime, words: usize, command: Command) {
+    let named = names_file(rt, words);
+    let given = words::read(rt, words, named, asked::wanted(asked_by(command), named));
     let fault = given.fault;
     let Fault::None = fault else {
-        guide::complain(command, named, fault);
+        guide::complain(rt, command, named, fault);
         return;
     };
     let values = given.values;
-    answer(command, named, values);
+    answer(rt, command, named, values);
 }
 
 // Whether the word after the command names a file: it is not all digits. Of a word that is longer than every path its start tells.
-fn names_file(words: usize) -> bool {
+fn names_file(rt: &HostRuntime, words: usize) -> bool {
     if words <= words::AFTER_COMMAND {
         return false;
     }
     let mut word = io::buffer();
-    let length = os::arg(words::AFTER_COMMAND, &mut word);
-    if os::errno() != 0 {
-        return !of_digits(&word);
+    match rt.arg(words::AFTER_COMMAND, &mut word) {
+        Ok(length) => !of_digits(&word[..length]),
+        Err(_) => !of_digits(&word),
     }
-    !of_digits(&word[..length])
 }
 
 fn of_digits(word: &[u8]) -> bool {
@@ -77,24 +81,26 @@ fn asked_by(command: Command) -> Asked {
     }
 }
 
-fn answer(command: Command, named: bool, values: [u32; words::ROOM]) {
+fn answer(rt: &HostRuntime, command: Command, named: bool, values: [u32; words::ROOM]) {
     if named {
-        of_file(command, values);
+        of_file(rt, command, values);
     } else {
         report::print(
+            rt,
             answers::of_cable(asked_by(command), values),
             b"rating: the answer cannot be written",
         );
     }
 }
 
-fn of_file(command: Command, values: [u32; words::ROOM]) {
+fn of_file(rt: &HostRuntime, command: Command, values: [u32; words::ROOM]) {
     let mut buffer = [0u8; report::SHEET_ROOM];
-    let input = file::read_sheet(&mut buffer);
+    let input = file::read_sheet(rt, &mut buffer);
     let Input::Length(length) = input else {
         return;
     };
     report::print(
+        rt,
         line_in_sheet(command, &buffer[..length], values),
         b"rating: the answer cannot be written",
     );
@@ -109,13 +115,13 @@ fn line_in_sheet(command: Command, sheet: &[u8], values: [u32; words::ROOM]) -> 
     }
 }
 
-fn rise_command(words: usize) {
+fn rise_command(rt: &HostRuntime, words: usize) {
     if words != words::AFTER_FILE {
-        guide::complaint(b"usage: one file wanted: rating rise FILE\n");
+        guide::complaint(rt, b"usage: one file wanted: rating rise FILE\n");
         return;
     }
     // A rise takes no numbers.
-    of_file(Command::Rise, [0u32; words::ROOM]);
+    of_file(rt, Command::Rise, [0u32; words::ROOM]);
 }
 
 // How many numbers explain takes: a refusal's number and, where a second word follows, its place.
@@ -125,11 +131,12 @@ fn explained(words: usize) -> usize
     if words == 4 { 2 } else { 1 }
 }
 
-fn explain_command(words: usize) {
-    let given = words::read(words, false, explained(words));
+fn explain_command(rt: &HostRuntime, words: usize) {
+    let given = words::read(rt, words, false, explained(words));
     let fault = given.fault;
     let Fault::None = fault else {
         guide::fault(
+            rt,
             fault,
             b"usage: one or two numbers wanted: rating explain NUMBER PLACE\n",
         );
@@ -137,24 +144,24 @@ fn explain_command(words: usize) {
     };
     let values = given.values;
     if explained(words) == 1 {
-        guide::refusal(values[0]);
+        guide::refusal(rt, values[0]);
     } else {
-        guide::refusal_at(values[0], values[1]);
+        guide::refusal_at(rt, values[0], values[1]);
     }
 }
 
-fn help_command(words: usize) {
+fn help_command(rt: &HostRuntime, words: usize) {
     if words != 2 {
-        guide::complaint(b"usage: no more words wanted: rating help\n");
+        guide::complaint(rt, b"usage: no more words wanted: rating help\n");
         return;
     }
-    guide::help();
+    guide::help(rt);
 }
 
-fn version_command(words: usize) {
+fn version_command(rt: &HostRuntime, words: usize) {
     if words != 2 {
-        guide::complaint(b"usage: no more words wanted: rating version\n");
+        guide::complaint(rt, b"usage: no more words wanted: rating version\n");
         return;
     }
-    guide::version();
+    guide::version(rt);
 }

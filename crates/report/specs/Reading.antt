@@ -10,7 +10,7 @@ use Rattle.report.specs.declared.Outcome.TheVariants.{Answer, Unread}
 
 abbrev pub Within : Input → List ℕ → Type 0
 Within (Length n) buffer = IsPrefixLen n buffer
-Within Failed buffer = Unit {0}
+Within (Failed error) buffer = Unit {0}
 
 pub record OfBytes (a : RiseAnswer) : Type 0 where
   pub sheet : List ℕ
@@ -18,4 +18,4 @@ pub record OfBytes (a : RiseAnswer) : Type 0 where
 
 abbrev pub FromBytes : Outcome → Type 0
 FromBytes (Answer a) = OfBytes a
-FromBytes Unread = Unit {0}
+FromBytes (Unread error) = Unit {0}

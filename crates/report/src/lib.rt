@@ -1,4 +1,4 @@
-// What a program reads and prints: a sheet from a descriptor, and an answer as one line.
+// What a program reads and prints: a sheet from a reader, and an answer as one line.
 #![tactic(auto)]
 ghost use Rattle.std.specs.Prelude.{◌≤◌};
 ghost use Rattle.text.specs.Writing.{line_room};
@@ -7,41 +7,46 @@ ghost use Rattle.history_rules.specs.Answer.{history_of, RiseSaid};
 ghost use Rattle.report.specs.Reading.{Within, FromBytes};
 ghost use Rattle.report.specs.Lines.{rise_line};
 
+mod reason;
+
 use history::RiseAnswer;
-use libc::STDOUT_FILENO;
+pub use reason::fail;
+use std::env::FillError;
+use std::io::{Error, Print, Read};
+use std::rt::Env;
 use text::Line;
 
-// How many bytes were read before the input ended or the buffer was full, or that a read failed.
+// How many bytes were read before the input ended or the buffer was full, or why a read failed.
 #[derive(Clone, Copy)]
 pub enum Input {
     Length(usize),
-    Failed,
+    Failed(Error),
 }
 
 // Fills the buffer from its start. A read that fails is told apart from the input's end.
-pub fn read_input(descriptor: i32, buffer: &mut [u8]) -> Input
+pub fn read_input<R: Read>(reader: &mut R, buffer: &mut [u8]) -> Input
     ensures { Within result buffer.new }
 {
     let mut done: usize = 0;
     while done < buffer.len() {
-        let got = libc::read(descriptor, &mut buffer[done..]);
-        if got < 0 {
-            return Input::Failed;
+        match reader.read(&mut buffer[done..]) {
+            Err(error) => return Input::Failed(error),
+            Ok(more) => {
+                if more == 0 {
+                    break;
+                }
+                done += more;
+            }
         }
-        let more = io::count(got, &buffer[done..]);
-        if more == 0 {
-            break;
-        }
-        done += more;
     }
     Input::Length(done)
 }
 
-// The answer for the bytes that were read, or that they could not be read.
+// The answer for the bytes that were read, or why they could not be read.
 #[derive(Clone, Copy)]
 pub enum Outcome {
     Answer(RiseAnswer),
-    Unread,
+    Unread(Error),
 }
 
 // By which loop the chain of a sheet is walked. The answer is the same.
@@ -54,16 +59,15 @@ pub enum Walk {
 // In bytes. Longer than the longest sheet, so that a longer input is refused for its length and not cut.
 pub const SHEET_ROOM: usize = 1024;
 
-// The rise of the sheet behind a descriptor.
-pub fn rise_from(descriptor: i32, walk: Walk) -> Outcome
+// The rise of the sheet that a reader gives.
+pub fn rise_from<R: Read>(reader: &mut R, walk: Walk) -> Outcome
     ensures { FromBytes result }
 {
     let mut buffer = [0u8; SHEET_ROOM];
-    let input = read_input(descriptor, &mut buffer);
-    let Input::Length(length) = input else {
-        return Outcome::Unread;
-    };
-    Outcome::Answer(walked(&buffer[..length], walk))
+    match read_input(reader, &mut buffer) {
+        Input::Length(length) => Outcome::Answer(walked(&buffer[..length], walk)),
+        Input::Failed(error) => Outcome::Unread(error),
+    }
 }
 
 fn walked(sheet: &[u8], walk: Walk) -> RiseAnswer
@@ -82,22 +86,33 @@ pub fn rise_line(answer: RiseAnswer) -> Line
     lines::answer_line(b"rise", history::parts(answer))
 }
 
-pub fn print_rise(answer: RiseAnswer, lost: &[u8]) {
-    print(rise_line(answer), lost);
+pub fn print_rise(rt: &HostRuntime, answer: RiseAnswer, lost: &[u8]) {
+    print(rt, rise_line(answer), lost);
 }
 
 // Writes the line as it is, with no line end of its own.
-pub fn print(line: Line, lost: &[u8])
+pub fn print(rt: &HostRuntime, line: Line, lost: &[u8])
     requires { line.length ≤ line_room }
 {
     let length = line.length;
     let bytes = line.bytes;
-    put(&bytes[..length], lost);
+    put(rt, &bytes[..length], lost);
 }
 
 // Writes to standard output. Where that fails, standard error is told what was lost, and the reason that the system gives.
-pub fn put(text: &[u8], lost: &[u8]) {
-    if !io::write_all(STDOUT_FILENO, text) {
-        os::fail(lost);
+pub fn put(rt: &HostRuntime, text: &[u8], lost: &[u8]) {
+    if let Err(error) = rt.stdout().write_all(text) {
+        fail(rt, lost, error);
     }
+}
+
+// How many words the program was started with, its own name among them.
+pub fn word_count(rt: &HostRuntime) -> usize {
+    let mut first = [0u8; 1];
+    for k in 0..usize::MAX {
+        if let Err(FillError::NotPresent) = rt.arg(k, &mut first) {
+            return k;
+        }
+    }
+    usize::MAX
 }

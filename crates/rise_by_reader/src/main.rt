@@ -1,19 +1,26 @@
 // Reads a sheet from standard input and prints its rise as `rise` does, with the chain walked by the reader. What is no answer goes to standard error.
 #![tactic(auto)]
-use libc::{STDERR_FILENO, STDIN_FILENO};
-use report::{Outcome, Walk};
 
-fn main() {
-    if 1 < os::arg_count() {
-        io::write_all(
-            STDERR_FILENO,
-            b"usage: no words wanted: rise_by_reader < SHEET\n",
-        );
+use report::{Outcome, Walk};
+use std::io::Print;
+
+fn main(rt: HostRuntime) {
+    if 1 < report::word_count(&rt) {
+        let _ = rt
+            .stderr()
+            .write_all(b"usage: no words wanted: rise_by_reader < SHEET\n");
         return;
     }
-    let Outcome::Answer(answer) = report::rise_from(STDIN_FILENO, Walk::ByReader) else {
-        os::fail(b"rise_by_reader: standard input cannot be read");
-        return;
-    };
-    report::print_rise(answer, b"rise_by_reader: the answer cannot be written");
+    match report::rise_from(&mut rt.stdin(), Walk::ByReader) {
+        Outcome::Answer(answer) => report::print_rise(
+            &rt,
+            answer,
+            b"rise_by_reader: the answer cannot be written",
+        ),
+        Outcome::Unread(error) => report::fail(
+            &rt,
+            b"rise_by_reader: standard input cannot be read",
+            error,
+        ),
+    }
 }

@@ -5,6 +5,7 @@ ghost use Rattle.words.specs.Words.{after_file, first_number, numbers_room, Read
 
 pub use commands::{Command, command_of};
 use cycle_rules::DAY_HOURS;
+use std::rt::Env;
 use text::Number;
 
 // The program's own name and the command stand before the first number, or before the name of a file.
@@ -35,7 +36,7 @@ pub struct Numbers {
 }
 
 // The wanted numbers, from all the words after the command, or after the file that is named.
-pub fn read(words: usize, named: bool, wanted: usize) -> Numbers
+pub fn read(rt: &HostRuntime, words: usize, named: bool, wanted: usize) -> Numbers
     requires { wanted ≤ numbers_room }
     ensures { ReadSaid words named wanted result }
 {
@@ -48,7 +49,7 @@ pub fn read(words: usize, named: bool, wanted: usize) -> Numbers
         };
     }
     for k in 0..wanted {
-        let word = word_at(first + k);
+        let word = word_at(rt, first + k);
         let Number::Whole(value) = word else {
             return Numbers {
                 values,
@@ -71,8 +72,10 @@ fn first_number(named: bool) -> usize
 }
 
 // Word k as a whole number. With pages of 4 KiB the system hands over no word that does not fit here.
-fn word_at(k: usize) -> Number {
+fn word_at(rt: &HostRuntime, k: usize) -> Number {
     let mut word = [0u8; 131072];
-    let length = os::arg(k, &mut word);
-    text::number_of(&word[..length], MOST)
+    match rt.arg(k, &mut word) {
+        Ok(length) => text::number_of(&word[..length], MOST),
+        Err(_) => text::number_of(b"", MOST),
+    }
 }

@@ -1,0 +1,11 @@
+-- The share of a sheet, and its line.
+use borrow.Author.Rules.{rules}
+use Rattle.answers.proofs.share_in_sheet.Goals as goal
+
+pub returns : goal.returns
+returns c =
+    record {
+      answer = c.share_in_sheet.result;
+      said = c.share_in_sheet.ensures;
+      printed = c.share_line.ensures;
+    }
