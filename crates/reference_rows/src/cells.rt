@@ -24,8 +24,8 @@ fn find(text: &[u8], byte: u8) -> usize
 
 // Where the text goes on after the first such byte: at its end where there is none.
 pub fn after(text: &[u8], byte: u8) -> usize
-    ensures text_value { (drop result text.now ≡ past byte text.now) × (result ≤ length text.now) }
-    ensures result_nonzero { 0 < length text.now → 0 < result }
+    ensures goes_on { (drop result text.now ≡ past byte text.now) × (result ≤ length text.now) }
+    ensures moves { 0 < length text.now → 0 < result }
 {
     let end = find(text, byte);
     if end < text.len() { end + 1 } else { end }

@@ -1,6 +1,7 @@
 // Runs the reference's rows of shares, factors and currents through the public calls, and says of each whether the answer is one that the row allows.
 // The rows stand in the files of this crate's data folder: all of false.tsv are false on purpose, and none of unreadable.tsv can be read.
 #![tactic(auto)]
+
 ghost use Rattle.std.specs.Prelude.{◌+◌, ◌≤◌, ◌<◌, length};
 ghost use Rattle.report.specs.Reading.{Within};
 ghost use Rattle.reference_rows.specs.Counting.{rows_in, table_room, most_rows};
@@ -12,8 +13,9 @@ mod results;
 mod verdicts;
 
 use answers::{Answer, Kind};
-use libc::STDOUT_FILENO;
 use report::Input;
+use std::fs;
+use std::io::Print;
 use verdicts::Verdict;
 
 // In bytes. A longer file is told, and not cut.
@@ -26,60 +28,64 @@ struct Counts {
     unreadable: u64,
 }
 
-fn main() {
+fn main(rt: HostRuntime) {
     let none = Counts {
         inside: 0,
         outside: 0,
         unreadable: 0,
     };
-    let first = table(b"reference.tsv", none);
-    let second = table(b"reference-notes.tsv", first);
-    let third = table(b"days.tsv", second);
-    let fourth = table(b"false.tsv", third);
-    let all = table(b"unreadable.tsv", fourth);
-    print_counts(all);
+    let first = table(&rt, "reference.tsv", none);
+    let second = table(&rt, "reference-notes.tsv", first);
+    let third = table(&rt, "days.tsv", second);
+    let fourth = table(&rt, "false.tsv", third);
+    let all = table(&rt, "unreadable.tsv", fourth);
+    print_counts(&rt, all);
 }
 
 // The counts with the rows of a file, each of which has its line.
-fn table(name: &[u8], counts: Counts) -> Counts
+fn table(rt: &HostRuntime, name: &str, counts: Counts) -> Counts
     requires { rows_in counts + table_room ≤ most_rows }
     ensures { rows_in result ≤ rows_in counts + table_room }
 {
-    io::write_all(STDOUT_FILENO, name);
+    put(rt, name.as_bytes());
     let mut buffer = [0u8; TABLE_ROOM];
-    let input = read_table(name, &mut buffer);
+    let input = read_table(rt, name, &mut buffer);
     let Input::Length(length) = input else {
-        io::write_all(STDOUT_FILENO, b" cannot be read\n");
+        put(rt, b" cannot be read\n");
         return counts;
     };
     if length == TABLE_ROOM {
-        io::write_all(STDOUT_FILENO, b" is too long\n");
+        put(rt, b" is too long\n");
         return counts;
     }
-    io::write_all(STDOUT_FILENO, b"\n");
-    rows(&buffer[..length], counts)
+    put(rt, b"\n");
+    rows(rt, &buffer[..length], counts)
 }
 
-fn read_table(name: &[u8], buffer: &mut [u8]) -> Input
+fn read_table(rt: &HostRuntime, name: &str, buffer: &mut [u8]) -> Input
     ensures { Within result buffer.new }
 {
-    let descriptor = os::open_read(name);
-    if descriptor < 0 {
-        return Input::Failed;
+    match fs::open(rt, name) {
+        Ok(file) => read_open(file, buffer),
+        Err(error) => Input::Failed(error),
     }
-    let input = report::read_input(descriptor, buffer);
-    libc::close(descriptor);
-    input
 }
 
-fn rows(table: &[u8], counts: Counts) -> Counts
+fn read_open(file: fs::File, buffer: &mut [u8]) -> Input
+    ensures { Within result buffer.new }
+{
+    let mut file = file;
+    report::read_input(&mut file, buffer)
+}
+
+fn rows(rt: &HostRuntime, table: &[u8], counts: Counts) -> Counts
     requires { rows_in counts + length table.now ≤ most_rows }
     ensures { rows_in result ≤ rows_in counts + length table.now }
 {
     let mut all = counts;
     let mut rest = table;
     while 0 < rest.len() {
-        all = with_row(all, cells::part(rest, b'\n', 0));
+        all = with_row(rt, all, cells::part(rest, b'\n', 0));
         let start = cells::after(rest, b'\n');
         rest = &rest[start..];
     }
@@ -87,7 +93,7 @@ fn rows(table: &[u8], counts: Counts) -> Counts
 }
 
 // The counts with a row, after its line is printed.
-fn with_row(counts: Counts, line: &[u8]) -> Counts
+fn with_row(rt: &HostRuntime, counts: Counts, line: &[u8]) -> Counts
     requires { rows_in counts < most_rows }
     ensures { rows_in result ≤ rows_in counts + 1 }
 {
@@ -100,8 +106,8 @@ fn with_row(counts: Counts, line: &[u8]) -> Counts
         cells::part(line, b'\t', 2),
         cells::part(line, b'\t', 3),
     );
-    io::write_all(STDOUT_FILENO, cells::part(line, b'\t', 1));
-    print_verdict(found);
+    put(rt, cells::part(line, b'\t', 1));
+    print_verdict(rt, found);
     counted(counts, found)
 }
 
@@ -112,16 +118,16 @@ fn verdict<'a>(kind: Kind, inputs: &'a [u8], results: &'a [u8]) -> Verdict {
     verdicts::judge(kind, results, said)
 }
 
-fn print_verdict(verdict: Verdict) {
+fn print_verdict(rt: &HostRuntime, verdict: Verdict) {
     match verdict {
         Verdict::Inside => {
-            io::write_all(STDOUT_FILENO, b" inside\n");
+            put(rt, b" inside\n");
         }
         Verdict::Outside => {
-            io::write_all(STDOUT_FILENO, b" outside\n");
+            put(rt, b" outside\n");
         }
         Verdict::Unreadable => {
-            io::write_all(STDOUT_FILENO, b" unreadable\n");
+            put(rt, b" unreadable\n");
         }
     }
 }
@@ -145,11 +151,20 @@ fn counted(counts: Counts, verdict: Verdict) -> Counts
     all
 }
 
-fn print_counts(counts: Counts) {
-    io::print_decimal(STDOUT_FILENO, counts.inside);
-    io::write_all(STDOUT_FILENO, b" rows inside, ");
-    io::print_decimal(STDOUT_FILENO, counts.outside);
-    io::write_all(STDOUT_FILENO, b" outside, ");
-    io::print_decimal(STDOUT_FILENO, counts.unreadable);
-    io::write_all(STDOUT_FILENO, b" unreadable\n");
+fn print_counts(rt: &HostRuntime, counts: Counts) {
+    put_number(rt, counts.inside);
+    put(rt, b" rows inside, ");
+    put_number(rt, counts.outside);
+    put(rt, b" outside, ");
+    put_number(rt, counts.unreadable);
+    put(rt, b" unreadable\n");
+}
+
+// A program that tests has nowhere to tell that a line was lost.
+fn put(rt: &HostRuntime, text: &[u8]) {
+    let _ = rt.stdout().write_all(text);
+}
+
+fn put_number(rt: &HostRuntime, n: u64) {
+    let _ = rt.stdout().print(n);
 }

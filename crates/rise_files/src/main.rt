@@ -3,14 +3,17 @@
 // where its answer differs, it is printed on the next line, and the last line counts the sheets and those with two answers alike. A name, `against` and a
 // second name hold the first sheet's answer by the plain walk to the second one's by the reader: `alike` or `differ` is printed.
 #![tactic(auto)]
+
 ghost use Rattle.std.specs.Prelude.{◌≡◌, true, false, ◌≤◌, ◌<◌};
 ghost use Rattle.rise_files.specs.Words.{most_words};
 
 use bounds::Bounds;
 use history::RiseAnswer;
-use libc::STDOUT_FILENO;
 use refusals::Parts;
 use report::{Outcome, Walk};
+use std::fs;
+use std::io::{Error, ErrorKind, Print};
+use std::rt::Env;
 use text::Signed;
 
 const MOST_WORDS: usize = 4096;
@@ -22,32 +25,32 @@ struct Counts {
     alike: u64,
 }
 
-fn main() {
-    let words = word_count();
+fn main(rt: HostRuntime) {
+    let words = word_count(&rt);
     let mut counts = Counts {
         sheets: 0,
         alike: 0,
     };
     for k in 1..words {
-        counts = counted(counts, k);
+        counts = counted(&rt, counts, k);
     }
-    print_counts(counts);
+    print_counts(&rt, counts);
 }
 
 // The counts after argument k, with the line of the sheet that it names.
-fn counted(counts: Counts, k: usize) -> Counts
+fn counted(rt: &HostRuntime, counts: Counts, k: usize) -> Counts
     requires { (0 < k) × (k < most_words) × (counts.sheets < k) × (counts.alike < k) }
     ensures { (result.sheets ≤ k) × (result.alike ≤ k) }
 {
-    if !begins(k) {
+    if !begins(rt, k) {
         return counts;
     }
-    if is_against(k + 1) {
-        print_against(k, k + 2);
+    if is_against(rt, k + 1) {
+        print_against(rt, k, k + 2);
         return counts;
     }
     let sheets = counts.sheets + 1;
-    if report_sheet(k) {
+    if report_sheet(rt, k) {
         return Counts {
             sheets,
             alike: counts.alike + 1,
@@ -60,10 +63,10 @@ fn counted(counts: Counts, k: usize) -> Counts
 }
 
 // How many arguments are looked at, the program's own name among them.
-fn word_count() -> usize
+fn word_count(rt: &HostRuntime) -> usize
     ensures { result ≤ most_words }
 {
-    let count = os::arg_count();
+    let count = report::word_count(rt);
     if count < MOST_WORDS {
         count
     } else {
@@ -71,131 +74,151 @@ fn word_count() -> usize
     }
 }
 
-fn word_at(k: usize) -> Signed {
+fn word_at(rt: &HostRuntime, k: usize) -> Signed {
     let mut text = io::buffer();
-    let length = os::arg(k, &mut text);
-    text::signed_of(&text[..length])
+    match rt.arg(k, &mut text) {
+        Ok(length) => text::signed_of(&text[..length]),
+        Err(_) => text::signed_of(b""),
+    }
 }
 
 // Whether a line begins at argument k: it is no number, and no part of what stands before it.
-fn begins(k: usize) -> bool
+fn begins(rt: &HostRuntime, k: usize) -> bool
     requires { 0 < k }
 {
-    if let Signed::Integer(_) = word_at(k) {
+    if let Signed::Integer(_) = word_at(rt, k) {
         return false;
     }
-    !is_against(k) && !is_against(k - 1)
+    !is_against(rt, k) && !is_against(rt, k - 1)
 }
 
-fn is_against(k: usize) -> bool {
+fn is_against(rt: &HostRuntime, k: usize) -> bool {
     let mut text = io::buffer();
-    let length = os::arg(k, &mut text);
-    text::same(&text[..length], b"against")
+    match rt.arg(k, &mut text) {
+        Ok(length) => text::same(&text[..length], b"against"),
+        Err(_) => false,
+    }
 }
 
-fn print_word(k: usize) {
+fn print_word(rt: &HostRuntime, k: usize) {
     let mut text = io::buffer();
-    let length = os::arg(k, &mut text);
-    io::write_all(STDOUT_FILENO, &text[..length]);
+    if let Ok(length) = rt.arg(k, &mut text) {
+        put(rt, &text[..length]);
+    }
 }
 
 // The answer for the sheet that argument k names.
-fn rise_of(k: usize, walk: Walk) -> Outcome {
+fn rise_of(rt: &HostRuntime, k: usize, walk: Walk) -> Outcome {
     let mut path = io::buffer();
-    let length = os::arg(k, &mut path);
-    let descriptor = os::open_read(&path[..length]);
-    if descriptor < 0 {
-        return Outcome::Unread;
+    match rt.arg(k, &mut path) {
+        Ok(length) => rise_named(rt, &path[..length], walk),
+        Err(_) => unnamed(),
     }
-    let outcome = report::rise_from(descriptor, walk);
-    libc::close(descriptor);
-    outcome
+}
+
+fn rise_named(rt: &HostRuntime, path: &[u8], walk: Walk) -> Outcome {
+    match std::str::from_utf8(path) {
+        Ok(name) => match fs::open(rt, name) {
+            Ok(file) => rise_open(file, walk),
+            Err(error) => Outcome::Unread(error),
+        },
+        Err(_) => unnamed(),
+    }
+}
+
+fn rise_open(file: fs::File, walk: Walk) -> Outcome {
+    let mut file = file;
+    report::rise_from(&mut file, walk)
+}
+
+fn unnamed() -> Outcome {
+    Outcome::Unread(Error::from(ErrorKind::InvalidInput))
 }
 
 // The line of the sheet that argument k names; whether the two walks answer alike.
-fn report_sheet(k: usize) -> bool
+fn report_sheet(rt: &HostRuntime, k: usize) -> bool
     requires { k < most_words }
 {
-    print_word(k);
-    io::write_all(STDOUT_FILENO, b": ");
-    let Outcome::Answer(plain) = rise_of(k, Walk::Plain) else {
-        io::write_all(STDOUT_FILENO, b"cannot be read\n");
+    print_word(rt, k);
+    put(rt, b": ");
+    let Outcome::Answer(plain) = rise_of(rt, k, Walk::Plain) else {
+        put(rt, b"cannot be read\n");
         return false;
     };
-    print_row(plain, k);
-    let Outcome::Answer(other) = rise_of(k, Walk::ByReader) else {
-        io::write_all(STDOUT_FILENO, b"by the reader: cannot be read\n");
+    print_row(rt, plain, k);
+    let Outcome::Answer(other) = rise_of(rt, k, Walk::ByReader) else {
+        put(rt, b"by the reader: cannot be read\n");
         return false;
     };
     if same(history::parts(plain), history::parts(other)) {
         return true;
     }
-    io::write_all(STDOUT_FILENO, b"by the reader: ");
-    report::print_rise(other, b"rise_files: a line cannot be written");
+    put(rt, b"by the reader: ");
+    report::print_rise(rt, other, b"rise_files: a line cannot be written");
     false
 }
 
-fn print_row(answer: RiseAnswer, k: usize)
+fn print_row(rt: &HostRuntime, answer: RiseAnswer, k: usize)
     requires { k < most_words }
 {
-    let Signed::Integer(low_min) = word_at(k + 1) else {
-        report::print_rise(answer, b"rise_files: a line cannot be written");
+    let Signed::Integer(low_min) = word_at(rt, k + 1) else {
+        report::print_rise(rt, answer, b"rise_files: a line cannot be written");
         return;
     };
     let RiseAnswer::Rise(pair) = answer else {
-        report::print_rise(answer, b"rise_files: a line cannot be written");
+        report::print_rise(rt, answer, b"rise_files: a line cannot be written");
         return;
     };
-    print_inside(pair, low_min, k);
+    print_inside(rt, pair, low_min, k);
 }
 
-fn print_inside(pair: Bounds, low_min: i64, k: usize)
+fn print_inside(rt: &HostRuntime, pair: Bounds, low_min: i64, k: usize)
     requires { k < most_words }
 {
     if low_min <= pair.low
-        && at_most(pair.low, k + 2)
-        && at_least(pair.high, k + 3)
-        && at_most(pair.high, k + 4)
+        && at_most(rt, pair.low, k + 2)
+        && at_least(rt, pair.high, k + 3)
+        && at_most(rt, pair.high, k + 4)
     {
-        io::write_all(STDOUT_FILENO, b"inside\n");
+        put(rt, b"inside\n");
     } else {
-        io::write_all(STDOUT_FILENO, b"outside\n");
+        put(rt, b"outside\n");
     }
 }
 
 // Whether argument k is a number, and n is not above it.
-fn at_most(n: i64, k: usize) -> bool {
-    let Signed::Integer(most) = word_at(k) else {
+fn at_most(rt: &HostRuntime, n: i64, k: usize) -> bool {
+    let Signed::Integer(most) = word_at(rt, k) else {
         return false;
     };
     n <= most
 }
 
-fn at_least(n: i64, k: usize) -> bool {
-    let Signed::Integer(least) = word_at(k) else {
+fn at_least(rt: &HostRuntime, n: i64, k: usize) -> bool {
+    let Signed::Integer(least) = word_at(rt, k) else {
         return false;
     };
     least <= n
 }
 
 // The plain answer for the sheet of argument k, held to the reader's for that of argument j.
-fn print_against(k: usize, j: usize) {
-    print_word(k);
-    io::write_all(STDOUT_FILENO, b" against ");
-    print_word(j);
-    io::write_all(STDOUT_FILENO, b": ");
-    let Outcome::Answer(plain) = rise_of(k, Walk::Plain) else {
-        io::write_all(STDOUT_FILENO, b"cannot be read\n");
+fn print_against(rt: &HostRuntime, k: usize, j: usize) {
+    print_word(rt, k);
+    put(rt, b" against ");
+    print_word(rt, j);
+    put(rt, b": ");
+    let Outcome::Answer(plain) = rise_of(rt, k, Walk::Plain) else {
+        put(rt, b"cannot be read\n");
         return;
     };
-    let Outcome::Answer(other) = rise_of(j, Walk::ByReader) else {
-        io::write_all(STDOUT_FILENO, b"cannot be read\n");
+    let Outcome::Answer(other) = rise_of(rt, j, Walk::ByReader) else {
+        put(rt, b"cannot be read\n");
         return;
     };
     if same(history::parts(plain), history::parts(other)) {
-        io::write_all(STDOUT_FILENO, b"alike\n");
+        put(rt, b"alike\n");
     } else {
-        io::write_all(STDOUT_FILENO, b"differ\n");
+        put(rt, b"differ\n");
     }
 }
 
@@ -222,10 +245,19 @@ fn same(a: Parts, b: Parts) -> bool
     a.second == b.second
 }
 
-fn print_counts(counts: Counts) {
-    io::write_all(STDOUT_FILENO, b"by the reader: ");
-    io::print_decimal(STDOUT_FILENO, counts.alike);
-    io::write_all(STDOUT_FILENO, b" of ");
-    io::print_decimal(STDOUT_FILENO, counts.sheets);
-    io::write_all(STDOUT_FILENO, b" answers alike\n");
+fn print_counts(rt: &HostRuntime, counts: Counts) {
+    put(rt, b"by the reader: ");
+    put_number(rt, counts.alike);
+    put(rt, b" of ");
+    put_number(rt, counts.sheets);
+    put(rt, b" answers alike\n");
+}
+
+// A program that tests has nowhere to tell that a line was lost.
+fn put(rt: &HostRuntime, text: &[u8]) {
+    let _ = rt.stdout().write_all(text);
+}
+
+fn put_number(rt: &HostRuntime, n: u64) {
+    let _ = rt.stdout().print(n);
 }

@@ -3,6 +3,7 @@
 // pair. The two misprints stand mended in the table: as printed their columns sum to 0.991 instead of 1.000. They are run as printed too, with two
 // more values that are false on purpose, one to each side.
 #![tactic(auto)]
+
 ghost use Rattle.std.specs.Prelude.{◌≡◌, ◌≤◌};
 ghost use Rattle.distance.specs.Promised.{Millionths};
 ghost use Rattle.table_1972.specs.Agreement.{surface_cable, table_cable, share_after, InMillionths};
@@ -10,8 +11,8 @@ ghost use Rattle.table_1972.specs.Agreement.{ends_of, near, agrees_at, one_if, a
 
 use bounds::Bounds;
 use cable::Cable;
-use libc::STDOUT_FILENO;
 use share::ShareAnswer;
+use std::io::Print;
 
 // A pair in millionths, neither end below 0.
 #[derive(Clone, Copy)]
@@ -228,24 +229,33 @@ fn agreeing(table: [[u16; LINES]; DIAMETERS]) -> u64
     count
 }
 
-fn print_false(name: &[u8], column: u16, line: u16, thousandths: u16) {
-    io::write_all(STDOUT_FILENO, name);
+fn print_false(rt: &HostRuntime, name: &[u8], column: u16, line: u16, thousandths: u16) {
+    put(rt, name);
     if agrees(column, line, thousandths) {
-        io::write_all(STDOUT_FILENO, b" agrees\n");
+        put(rt, b" agrees\n");
     } else {
-        io::write_all(STDOUT_FILENO, b" disagrees\n");
+        put(rt, b" disagrees\n");
     }
 }
 
-fn main() {
+// A program that tests has nowhere to tell that a line was lost.
+fn put(rt: &HostRuntime, text: &[u8]) {
+    let _ = rt.stdout().write_all(text);
+}
+
+fn put_number(rt: &HostRuntime, n: u64) {
+    let _ = rt.stdout().print(n);
+}
+
+fn main(rt: HostRuntime) {
     let count = agreeing(TABLE);
-    io::write_all(STDOUT_FILENO, b"agree ");
-    io::print_decimal(STDOUT_FILENO, count);
-    io::write_all(STDOUT_FILENO, b"\ndisagree ");
-    io::print_decimal(STDOUT_FILENO, VALUES - count);
-    io::write_all(STDOUT_FILENO, b"\n");
-    print_false(b"l.1398, 0.095 m, 0.667 as printed", 13, 6, 667);
-    print_false(b"l.1392, 0.100 m, 0.100 as printed", 14, 0, 100);
-    print_false(b"l.1392, 0.030 m, 0.296 for 0.298", 0, 0, 296);
-    print_false(b"l.1392, 0.030 m, 0.300 for 0.298", 0, 0, 300);
+    put(&rt, b"agree ");
+    put_number(&rt, count);
+    put(&rt, b"\ndisagree ");
+    put_number(&rt, VALUES - count);
+    put(&rt, b"\n");
+    print_false(&rt, b"l.1398, 0.095 m, 0.667 as printed", 13, 6, 667);
+    print_false(&rt, b"l.1392, 0.100 m, 0.100 as printed", 14, 0, 100);
+    print_false(&rt, b"l.1392, 0.030 m, 0.296 for 0.298", 0, 0, 296);
+    print_false(&rt, b"l.1392, 0.030 m, 0.300 for 0.298", 0, 0, 300);
 }

@@ -1,0 +1,16 @@
+-- The loop's invariant: the hours so far are those of the list. The measure is what is left of the day.
+use mathlib.Core.Path.{◌≡◌, refl, ap, sym, ◌∙◌}
+use mathlib.Core.Bool.{true, false}
+use Prim.Native.Nat.{ℕ, ◌-◌, ◌≤◌}
+use native.Mathlib.Omega.{arith}
+use borrow.Author.Rules.{rules}
+use Rattle.reference_rows.specs.Cells.{number_from}
+use Rattle.reference_rows.specs.Inputs.{HoursTo}
+use Rattle.reference_rows.proofs.Bytes.{hour_more}
+use Rattle.reference_rows.proofs.inputs.day_of.Given as goal
+
+abbrev pub invariant-loop-k : goal.invariant-loop-k
+invariant-loop-k l = (l.k ≤ 24) × HoursTo l.k l.list l.hours
+
+abbrev pub decreases-loop-k : goal.decreases-loop-k
+decreases-loop-k l = 24 - l.k

@@ -1,0 +1,16 @@
+-- The loop counts one line at a time.
+use mathlib.Core.Path.{◌≡◌, refl, ap, ap₂, ◌∙◌}
+use mathlib.Core.Bool.{Bool}
+use mathlib.Core.List.{List}
+use Prim.Native.Nat.{ℕ, ◌+◌, ◌-◌, ◌≤◌}
+use native.Mathlib.Numerals.{add-one}
+use native.Mathlib.Omega.{arith}
+use lib.ListN.{get_or}
+use Rattle.table_1972.specs.Agreement.{agrees_at, one_if, agreeing_lines}
+use Rattle.table_1972.proofs.agreeing_in.Given as goal
+
+abbrev pub invariant-loop-line : goal.invariant-loop-line
+invariant-loop-line l = (l.line ≤ 7) × (l.count ≤ l.line) × (l.count ≡ agreeing_lines l.column l.printed l.line)
+
+abbrev pub decreases-loop-line : goal.decreases-loop-line
+decreases-loop-line l = 7 - l.line
