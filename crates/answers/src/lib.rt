@@ -1,5 +1,6 @@
 // The line of each answer, from the numbers that were read: a cable's eight fields, and what is asked of it; or from the bytes of a sheet and what is asked.
 #![tactic(auto)]
+
 ghost use Rattle.std.specs.Prelude.{◌≡◌, ◌+◌, ◌≤◌, get_or};
 ghost use Rattle.text.specs.Writing.{line_room};
 ghost use Rattle.lines.specs.Lines.{Says};

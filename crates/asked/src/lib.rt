@@ -1,5 +1,6 @@
 // What is asked of a cable or of a sheet: how many numbers it takes, and the hours among them as the factor takes them.
 #![tactic(auto)]
+
 ghost use Rattle.std.specs.Prelude.{◌≡◌, ◌≤◌, min};
 ghost use Rattle.cycle_rules.specs.Day.{day_hours};
 ghost use Rattle.words.specs.Words.{cable_fields, numbers_room};

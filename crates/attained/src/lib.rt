@@ -1,6 +1,7 @@
 // The attained share of accepted numbers, in fixed point, from the sums of a cable and its neighbours. Document 01, 'The attained share', and
 // document 02, note 2.
 #![tactic(auto)]
+
 ghost use Rattle.std.specs.Prelude.{◌≡◌, ◌*◌};
 ghost use Rattle.bounds.specs.Pair.{as_bounds, as_pair, less_p};
 ghost use Rattle.bounds.specs.Promises.{QuotientRoom};

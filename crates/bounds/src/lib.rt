@@ -1,5 +1,6 @@
 // Pairs of bounds, added, negated, multiplied and divided as one thing, and division of signed numbers rounded down and up.
 #![tactic(auto)]
+
 ghost use Rattle.std.specs.Prelude.{◌≡◌, true, ◌<◌, ◌≤◌, ◌^◌, T, pos, negsuc, nat_abs};
 ghost use Rattle.std.specs.Int.Signed.{mag, lt_z, non_neg};
 ghost use Rattle.numbers.specs.Integer.{up, lesser, greater};

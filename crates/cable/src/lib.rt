@@ -1,5 +1,6 @@
 // A cable of its fields, its checks 2 and 3, and the cable in use.
 #![tactic(auto)]
+
 ghost use Rattle.std.specs.Prelude.{◌≡◌, ◌≤◌, length};
 ghost use Rattle.cable_rules.specs.Checks.{cable_from, outside_field};
 ghost use Rattle.cable_rules.specs.Promises.{Checked, Alone, GivenBy};

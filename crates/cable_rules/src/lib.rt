@@ -1,5 +1,6 @@
 // A cable, and what its checks 2 and 3 find: types, definitions and laws.
 #![tactic(auto)]
+
 use refusals::Refusal;
 
 // The fields in the order and the units of document 01's table; a diffusivity of 0 stands for the default.

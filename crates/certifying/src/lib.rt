@@ -1,5 +1,6 @@
 // The certifying rule, and the largest ampere that it certifies: document 01, 'The emergency current'.
 #![tactic(auto)]
+
 ghost use Rattle.std.specs.Prelude.{◌≡◌, ◌*◌, ◌≤◌, pos};
 ghost use Rattle.emergency_rules.specs.Asked.{InRange};
 ghost use Rattle.emergency_rules.specs.Certifying.{steady_limit, certified, largest_certified, most_current};

@@ -1,5 +1,6 @@
 // The command, by its name.
 #![tactic(auto)]
+
 ghost use Rattle.std.specs.Prelude.{◌≡◌};
 ghost use Rattle.commands.specs.Names.{command_of, asks_help, asks_version};
 

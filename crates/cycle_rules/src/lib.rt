@@ -1,6 +1,7 @@
 // The cyclic rating factor: the type of its answer, what it is, and how far it is from the exact one. Document 01, 'The daily cycle', with the reference hour of
 // document 02, note 1, 'The hottest hour'; and note 2.
 #![tactic(auto)]
+
 use refusals::Refusal;
 
 // In h.

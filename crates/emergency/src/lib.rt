@@ -1,5 +1,6 @@
 // The emergency current of a cable: document 01, 'The emergency current'; document 02, note 2.
 #![tactic(auto)]
+
 ghost use Rattle.std.specs.Prelude.{◌≡◌};
 ghost use Rattle.refusals.specs.Apart.{parts_of};
 ghost use Rattle.cable_rules.specs.Group.{given_cable};

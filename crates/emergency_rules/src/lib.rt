@@ -1,5 +1,6 @@
 // The emergency current: the type of its answer, what it is, and how far it is from the exact one. Document 01, 'The emergency current'; document 02, note 2.
 #![tactic(auto)]
+
 use refusals::Refusal;
 
 // The largest certified whole amperes, or the first refusal: of the cable or the sheet, then 9, 12, 13.

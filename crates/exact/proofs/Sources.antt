@@ -1,6 +1,6 @@
 -- A neighbour's integral and logarithm in plain values, and their sums over a list of neighbours: the laws that β's numerator and divisor have of one source, by
 -- induction over the list.
-use Prim.Native.Nat.{ℕ, ◌+◌, ◌*◌, ◌≤◌, ◌<◌}
+use Prim.Native.Nat.{ℕ, ◌*◌, ◌≤◌, ◌<◌}
 use mathlib.Core.List.{List, [], ◌∷◌}
 use lib.Dec.{T}
 use native.Mathlib.Nat.{mul-le-mul_right}

@@ -1,5 +1,6 @@
 // The largest factor that a heating sum allows: document 01, 'The daily cycle'.
 #![tactic(auto)]
+
 ghost use Rattle.std.specs.Prelude.{◌≡◌, ◌≤◌};
 ghost use Rattle.bounds.specs.Promises.{Sized};
 ghost use Rattle.cycle_rules.specs.Factor.{most_factor, allowed, largest_factor};

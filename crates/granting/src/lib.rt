@@ -1,5 +1,6 @@
 // The emergency current from a share: document 01, 'The emergency current'.
 #![tactic(auto)]
+
 ghost use Rattle.std.specs.Prelude.{◌≡◌};
 ghost use Rattle.numbers.specs.Integer.{up};
 ghost use Rattle.distance.specs.Promised.{Millionths};

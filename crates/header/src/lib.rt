@@ -1,5 +1,6 @@
 // The bytes of a load sheet: numbers, lengths, and the header with refusals 1 to 4. Document 01, 'The load sheet'; document 02, note 2.
 #![tactic(auto)]
+
 ghost use Rattle.std.specs.Prelude.{◌≡◌, ◌+◌, ◌*◌, ◌≤◌, length};
 ghost use Rattle.sheet_rules.specs.BigEndian.{big_endian};
 ghost use Rattle.sheet_rules.specs.Layout.{short_header, header_length, record_count, wrong_length};

@@ -1,5 +1,6 @@
 // The sum that a walk along the load chain carries: what the starting current adds, the change at a step, and the rise at the end. Document 01, 'The load sheet'.
 #![tactic(auto)]
+
 ghost use Rattle.std.specs.Prelude.{◌≡◌, ◌≤◌};
 ghost use Rattle.bounds.specs.Operations.{point_b};
 ghost use Rattle.sheet_rules.specs.Header.{most_amperes};

@@ -1,5 +1,6 @@
 // The heating sum of a day, and that of its hottest hour: document 01, 'The daily cycle', with the reference hour of document 02, note 1, 'The hottest hour'.
 #![tactic(auto)]
+
 ghost use Rattle.std.specs.Prelude.{◌≡◌, ◌≤◌, ◌<◌};
 ghost use Rattle.bounds.specs.Operations.{point_b};
 ghost use Rattle.bounds.specs.Promises.{Sized};

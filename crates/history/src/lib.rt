@@ -1,5 +1,6 @@
 // The rise of a cable after a load history: document 01, 'The load sheet'; document 02, note 2.
 #![tactic(auto)]
+
 ghost use Rattle.std.specs.Prelude.{◌≡◌};
 ghost use Rattle.refusals.specs.Apart.{parts_of};
 ghost use Rattle.history_rules.specs.Answer.{stated_rise, history_of, RiseSaid};

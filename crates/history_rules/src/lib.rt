@@ -1,6 +1,7 @@
 // The rise of a cable after a load history: types, what an answer is, turn by turn too, and how far it is from the exact rise. Document 01, 'The load sheet';
 // document 02, note 2.
 #![tactic(auto)]
+
 use bounds::Bounds;
 use refusals::Refusal;
 use sheet_rules::LoadRecord;

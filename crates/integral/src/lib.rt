@@ -1,5 +1,6 @@
 // The logarithm and the heating integral of any two squared distances, in fixed point: both are whole numbers of 2^-30.
 #![tactic(auto)]
+
 ghost use Rattle.std.specs.Prelude.{◌≡◌, ◌*◌, ◌<◌, min, max};
 ghost use Rattle.bounds.specs.Pair.{as_bounds, as_pair};
 ghost use Rattle.model.specs.Scale.{far_from, units, halves};

@@ -1,6 +1,7 @@
 // The calculations for C and Rust, on numbers and bytes. Each writes its answer as five numbers into a lent array: the refusal's number, 0 for none,
 // the kind and the number of its place, and the values.
 #![tactic(auto)]
+
 ghost use Rattle.std.specs.Prelude.{◌≡◌};
 ghost use Rattle.cable_rules.specs.Checks.{cable_from};
 ghost use Rattle.cable_rules.specs.Group.{given_cable};

@@ -1,5 +1,6 @@
 // An answer's line, as document 01's 'Cases' has the program `rise` print it: a word and numbers in decimal.
 #![tactic(auto)]
+
 ghost use Rattle.std.specs.Prelude.{◌≤◌, length};
 ghost use Rattle.lines.specs.Lines.{Says, refusal_line, answer_line};
 

@@ -1,5 +1,6 @@
 // The chain of neighbours: a record as a neighbour in the trench, and refusals 14, 15, 16. Document 02, note 2.
 #![tactic(auto)]
+
 ghost use Rattle.std.specs.Prelude.{◌≡◌, ◌≤◌, nat_abs};
 ghost use Rattle.exact.specs.Share.{between, source_of};
 ghost use Rattle.sheet_rules.specs.Neighbours.{signed_of, neighbour_of, most_depth, beside_first};

@@ -1,6 +1,7 @@
 // Polynomials, fractions, signed fractions and integers are laws only. The code is what every crate would else write anew: a square, the lesser of two, a
 // wider number.
 #![tactic(auto)]
+
 ghost use Rattle.std.specs.Prelude.{◌≡◌, ◌*◌, min, pos};
 
 // The square of 32 bits fits 64.

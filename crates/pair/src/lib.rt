@@ -1,5 +1,6 @@
 // The pair of an accepted cable in use, its neighbours and an accepted minute count: document 01, 'The attained share'; document 02, note 2.
 #![tactic(auto)]
+
 ghost use Rattle.std.specs.Prelude.{◌≡◌};
 ghost use Rattle.sheet_rules.specs.Sheet.{group_in};
 ghost use Rattle.share_rules.specs.Pair.{share_pair};

@@ -1,5 +1,6 @@
 // The ranges that inputs are held to, and the first input outside its range.
 #![tactic(auto)]
+
 ghost use Rattle.std.specs.Prelude.{◌≡◌, ◌≤◌, length};
 ghost use Rattle.ranges.specs.Ranges.{◌to◌, outside, ranges_of, first_outside};
 

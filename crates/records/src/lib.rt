@@ -1,5 +1,6 @@
 // One record of a load sheet: the header's for 0, and refusals 5 to 8. Document 01, 'The load sheet'; document 02, note 2.
 #![tactic(auto)]
+
 ghost use Rattle.std.specs.Prelude.{◌≡◌, ◌+◌, ◌≤◌, length};
 ghost use Rattle.sheet_rules.specs.Layout.{record_length, most_records, record_start};
 ghost use Rattle.sheet_rules.specs.Records.{record_of, before_first, refused_at};

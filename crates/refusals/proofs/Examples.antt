@@ -1,5 +1,5 @@
 -- Worked examples, document 01, 'When the desk is told no': what an answer states, taken apart and put together.
-use Rattle.std.specs.Prelude.{◌≡◌, refl, List, [], ◌∷◌, ℕ, ℤ, pos}
+use Rattle.std.specs.Prelude.{◌≡◌, refl, [], ◌∷◌, ℕ, ℤ, pos}
 use Rattle.refusals.specs.Stated.{stated_values, stated_refusal}
 use Rattle.refusals.specs.Apart.{parts_of, place_of, refusal_in}
 use Rattle.refusals.specs.declared.Place.{Place}

@@ -1,5 +1,6 @@
 // What a refusal is: its number and its place; and what an answer states, taken apart and put together.
 #![tactic(auto)]
+
 ghost use Rattle.std.specs.Prelude.{◌≡◌, [], ◌∷◌, pos};
 ghost use Rattle.refusals.specs.Stated.{place_kind, place_number, kind_number, stated_values, stated_refusal};
 ghost use Rattle.refusals.specs.Apart.{parts_of, place_of, refusal_in};

@@ -1,5 +1,6 @@
 // What a program reads and prints: a sheet from a reader, and an answer as one line.
 #![tactic(auto)]
+
 ghost use Rattle.std.specs.Prelude.{◌≤◌};
 ghost use Rattle.text.specs.Writing.{line_room};
 ghost use Rattle.lines.specs.Lines.{Says};

@@ -1,5 +1,6 @@
 // The series of one slice and the exponential, in fixed point: fractions are whole numbers of 2^-30.
 #![tactic(auto)]
+
 ghost use Rattle.std.specs.Prelude.{◌≡◌};
 ghost use Rattle.bounds.specs.Pair.{as_bounds, as_pair};
 ghost use Rattle.model.specs.Scale.{one};

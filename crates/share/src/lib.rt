@@ -1,5 +1,6 @@
 // The attained share of a cable after some minutes: document 01, 'The attained share'; document 02, note 2.
 #![tactic(auto)]
+
 ghost use Rattle.std.specs.Prelude.{◌≡◌};
 ghost use Rattle.refusals.specs.Apart.{parts_of};
 ghost use Rattle.cable_rules.specs.Group.{given_cable};

@@ -1,5 +1,6 @@
 // The attained share: the type of its answer, what it is, and what its pair promises. Document 01, 'The attained share'; document 02, note 2.
 #![tactic(auto)]
+
 use bounds::Bounds;
 use refusals::Refusal;
 

@@ -1,5 +1,6 @@
 // All checks of a sheet, and what a calculation is given: by a sheet, or by a cable without one. Document 02, note 2.
 #![tactic(auto)]
+
 ghost use Rattle.std.specs.Prelude.{◌≡◌, suc};
 ghost use Rattle.sheet_rules.specs.Promises.{InGround, SheetSaid, TrenchSaid, GivenBySheet, GivenAlone, checked_next, turns_left, outcome_of};
 ghost use Rattle.sheet_rules.specs.Walk.{walk_from};

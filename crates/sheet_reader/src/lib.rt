@@ -1,6 +1,7 @@
 // A reader that refers to a sheet and holds a record number: made at the header, moved on to a record, and read. The borrow checker covers no
 // function over such a struct, so each is thin, and `record_at` does the work.
 #![tactic(auto)]
+
 ghost use Rattle.std.specs.Prelude.{◌≡◌};
 ghost use Rattle.sheet_rules.specs.Promises.{RecordReadAs};
 

@@ -1,6 +1,7 @@
 // The load sheet: types of its header, its records and what it gives, all checks in their order, and laws of both chains. Document 01, 'The load sheet';
 // document 02, note 2.
 #![tactic(auto)]
+
 use cable_rules::Cable;
 use refusals::Refusal;
 

@@ -1,5 +1,6 @@
 // Decimal numbers as bytes: read from a text, and written into a line.
 #![tactic(auto)]
+
 ghost use Rattle.std.specs.Prelude.{◌≡◌, [], ◌+◌, ◌-◌, ◌<◌, ◌≤◌, nat_abs, length};
 ghost use Rattle.text.specs.Reading.{zero_digit, is_digit, spelled_by, number_of, same_bytes};
 ghost use Rattle.text.specs.Reading.{beyond_signed, with_sign, has_minus, as_integer, signed_of};

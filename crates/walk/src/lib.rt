@@ -1,5 +1,6 @@
 // One turn of the walk along the load chain. Document 01, 'The load sheet'; document 02, note 2.
 #![tactic(auto)]
+
 ghost use Rattle.std.specs.Prelude.{◌≡◌};
 ghost use Rattle.share_rules.specs.Pair.{share_pair};
 ghost use Rattle.sheet_rules.specs.Sheet.{group_in};

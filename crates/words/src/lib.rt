@@ -1,5 +1,6 @@
 // What is typed after `rating`: the whole numbers among the words; and the commands, passed on.
 #![tactic(auto)]
+
 ghost use Rattle.std.specs.Prelude.{◌≡◌, ◌≤◌};
 ghost use Rattle.words.specs.Words.{after_file, first_number, numbers_room, ReadSaid};
 

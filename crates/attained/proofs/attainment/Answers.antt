@@ -32,7 +32,7 @@ add-requires c =
 pub rest_of-requires : goal.rest_of-requires
 rest_of-requires c =
     let yet : Pair = yet_to_rise (c.args.fast * c.args.seconds) (c.args.slow * c.args.seconds) c.args.w in
-    let yet_is : c.add.result ≡ as_bounds yet = 
+    let yet_is : c.add.result ≡ as_bounds yet =
     rw (c.add.ensures.is, weighted_is _ _ c.exp_neg.ensures c.times-fast_part.ensures.is, weighted_is _ _ c.exp_neg-2.ensures c.times-slow_part.ensures.is)
     (add_pair _ _) in
     rw yet_is (yet_to_rise_part _ _ _ (omega arith))
@@ -40,7 +40,7 @@ rest_of-requires c =
 pub divided-requires : goal.divided-requires
 divided-requires c =
     let yet : Pair = yet_to_rise (c.args.fast * c.args.seconds) (c.args.slow * c.args.seconds) c.args.w in
-    let yet_is : c.add.result ≡ as_bounds yet = 
+    let yet_is : c.add.result ≡ as_bounds yet =
     rw (c.add.ensures.is, weighted_is _ _ c.exp_neg.ensures c.times-fast_part.ensures.is, weighted_is _ _ c.exp_neg-2.ensures c.times-slow_part.ensures.is)
     (add_pair _ _) in
     rw (c.rest_of.ensures, yet_is) (risen_room _)
@@ -49,7 +49,7 @@ pub returns : goal.returns
 unfolding attainment attainment_of
 returns c =
     let yet : Pair = yet_to_rise (c.args.fast * c.args.seconds) (c.args.slow * c.args.seconds) c.args.w in
-    let yet_is : c.add.result ≡ as_bounds yet = 
+    let yet_is : c.add.result ≡ as_bounds yet =
     rw (c.add.ensures.is, weighted_is _ _ c.exp_neg.ensures c.times-fast_part.ensures.is, weighted_is _ _ c.exp_neg-2.ensures c.times-slow_part.ensures.is)
     (add_pair _ _) in
     c.divided.ensures.is

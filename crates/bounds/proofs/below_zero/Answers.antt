@@ -1,5 +1,4 @@
 -- `-1 - m` of a natural number that fits. Assumes nothing.
-use borrow.Author.Rules.{rules}
 use lib.IntN.{pos}
 use Rattle.numbers.proofs.Machine.{flip_fits, flip_seen}
 use Rattle.bounds.proofs.below_zero.Goals as goal

@@ -1,6 +1,5 @@
 -- Each end is cast as it is. Assumes nothing.
 use mathlib.Core.Path.{◌∙◌}
-use borrow.Author.Rules.{rules}
 use Rattle.numbers.proofs.Machine.{result_seen}
 use Rattle.bounds.proofs.Enclosure.{same_ends}
 use Rattle.bounds.proofs.from_naturals.Goals as goal

@@ -1,5 +1,4 @@
 -- A natural number below 2^63 is cast as it is. Assumes nothing.
-use borrow.Author.Rules.{rules}
 use mir.Syntax.{w64}
 use mir.Facts.{to_z_pos}
 use Rattle.bounds.proofs.signed.Goals as goal

@@ -11,49 +11,49 @@ overflow_mul-preload c =
 
 pub overflow_mul-load : goal.overflow_mul-load
 overflow_mul-load c =
-    let at_end : Products c.square-rated_squared.result c.square.result c.square-load.result c.args.r c.args.g = 
+    let at_end : Products c.square-rated_squared.result c.square.result c.square-load.result c.args.r c.args.g =
     products c.requires.0 c.requires.1 c.square-rated_squared.ensures c.square.ensures c.square-load.ensures in
     omega (arith, at_end)
 
 pub overflow_mul-limit-2 : goal.overflow_mul-limit-2
 overflow_mul-limit-2 c =
-    let at_end : Products c.square-rated_squared.result c.square.result c.square-load.result c.args.r c.args.g = 
+    let at_end : Products c.square-rated_squared.result c.square.result c.square-load.result c.args.r c.args.g =
     products c.requires.0 c.requires.1 c.square-rated_squared.ensures c.square.ensures c.square-load.ensures in
     omega (arith, at_end)
 
 pub overflow_mul-result : goal.overflow_mul-result
 overflow_mul-result c =
-    let at_end : Products c.square-rated_squared.result c.square.result c.square-load.result c.args.r c.args.g = 
+    let at_end : Products c.square-rated_squared.result c.square.result c.square-load.result c.args.r c.args.g =
     products c.requires.0 c.requires.1 c.square-rated_squared.ensures c.square.ensures c.square-load.ensures in
     omega (arith, at_end)
 
 pub overflow_mul-result-2 : goal.overflow_mul-result-2
 overflow_mul-result-2 c =
-    let at_end : Products c.square-rated_squared.result c.square.result c.square-load.result c.args.r c.args.g = 
+    let at_end : Products c.square-rated_squared.result c.square.result c.square-load.result c.args.r c.args.g =
     products c.requires.0 c.requires.1 c.square-rated_squared.ensures c.square.ensures c.square-load.ensures in
     omega (arith, at_end)
 
 pub overflow_add-result : goal.overflow_add-result
 overflow_add-result c =
-    let at_end : Products c.square-rated_squared.result c.square.result c.square-load.result c.args.r c.args.g = 
+    let at_end : Products c.square-rated_squared.result c.square.result c.square-load.result c.args.r c.args.g =
     products c.requires.0 c.requires.1 c.square-rated_squared.ensures c.square.ensures c.square-load.ensures in
     omega (arith, at_end)
 
 pub overflow_mul-result-3 : goal.overflow_mul-result-3
 overflow_mul-result-3 c =
-    let at_end : Products c.square-rated_squared.result c.square.result c.square-load.result c.args.r c.args.g = 
+    let at_end : Products c.square-rated_squared.result c.square.result c.square-load.result c.args.r c.args.g =
     products c.requires.0 c.requires.1 c.square-rated_squared.ensures c.square.ensures c.square-load.ensures in
     omega (arith, at_end)
 
 pub overflow_mul-result-4 : goal.overflow_mul-result-4
 overflow_mul-result-4 c =
-    let at_end : Products c.square-rated_squared.result c.square.result c.square-load.result c.args.r c.args.g = 
+    let at_end : Products c.square-rated_squared.result c.square.result c.square-load.result c.args.r c.args.g =
     products c.requires.0 c.requires.1 c.square-rated_squared.ensures c.square.ensures c.square-load.ensures in
     omega (arith, at_end)
 
 pub overflow_add-result-2 : goal.overflow_add-result-2
 overflow_add-result-2 c =
-    let at_end : Products c.square-rated_squared.result c.square.result c.square-load.result c.args.r c.args.g = 
+    let at_end : Products c.square-rated_squared.result c.square.result c.square-load.result c.args.r c.args.g =
     products c.requires.0 c.requires.1 c.square-rated_squared.ensures c.square.ensures c.square-load.ensures in
     omega (arith, at_end)
 

@@ -1,6 +1,5 @@
 -- The word is the first of the names, or not that one but a later one.
 use mathlib.Core.Path.{refl, sym, ◌∙◌}
-use borrow.Author.Rules.{rules}
 use Rattle.commands.specs.Names.{asks_version}
 use Rattle.commands.proofs.asks_version.Goals as goal
 

@@ -1,7 +1,6 @@
 -- The first name that is the word's.
 use mathlib.Core.Path.{◌≡◌, refl, sym, ◌∙◌}
 use mathlib.Core.Bool.{false}
-use borrow.Author.Rules.{rules}
 use Rattle.text.specs.Reading.{same_bytes}
 use Rattle.lines.specs.Lines.{rise_word}
 use Rattle.commands.specs.Names.{share_word, factor_word, current_word, explain_word, asks_help, asks_version, command_of}

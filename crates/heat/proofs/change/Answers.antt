@@ -22,7 +22,7 @@ neg-requires c =
 
 pub add-requires : goal.add-requires
 add-requires c =
-    let difference : add_b c.whole.result c.neg.result ≡ point_b (change_of c.args.previous c.args.amperes) = 
+    let difference : add_b c.whole.result c.neg.result ≡ point_b (change_of c.args.previous c.args.amperes) =
     change_is _ _ (c.whole.ensures.is ∙ ap (λ n. point_b (pos n)) c.square.ensures)
     (c.whole-2.ensures.is ∙ ap (λ n. point_b (pos n)) c.square-2.ensures) c.neg.ensures.is in
     let p = c.requires in
@@ -30,7 +30,7 @@ add-requires c =
 
 pub returns : goal.returns
 returns c =
-    let difference : add_b c.whole.result c.neg.result ≡ point_b (change_of c.args.previous c.args.amperes) = 
+    let difference : add_b c.whole.result c.neg.result ≡ point_b (change_of c.args.previous c.args.amperes) =
     change_is _ _ (c.whole.ensures.is ∙ ap (λ n. point_b (pos n)) c.square.ensures)
     (c.whole-2.ensures.is ∙ ap (λ n. point_b (pos n)) c.square-2.ensures) c.neg.ensures.is in
     c.add.ensures.is ∙ difference

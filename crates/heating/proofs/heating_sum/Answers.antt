@@ -33,8 +33,7 @@ add-sum-requires c =
 
 pub loop-i-preserved : goal.loop-i-preserved
 loop-i-preserved c =
-    let small : common_divisor c.args.hours ≤ most_divisor = rw (← c.requires.2.is) c.requires.2.to in
-     (
+    let small : common_divisor c.args.hours ≤ most_divisor = rw (← c.requires.2.is) c.requires.2.to in (
       omega (arith, c.loop-i-test),
       c.add-sum.ensures.is
           ∙ next_sum _ _ (pairs_of c.args.shares) c.requires.0.sized small c.loop-i.i c.loop-i.invariant.1 c.gathered_load.ensures refl c.mul.ensures.is,
@@ -44,8 +43,8 @@ pub divided-requires : goal.divided-requires
 divided-requires c =
     let small : common_divisor c.args.hours ≤ most_divisor = rw (← c.requires.2.is) c.requires.2.to in
     let whole_sum : c.loop-i.sum ≡ gathered_bounds c.args.hours c.args.hour (pairs_of c.args.shares) heating_hours =
-        let e : c.loop-i.i ≡ heating_hours = omega arith in
-        c.loop-i.invariant.1 ∙ ap (gathered_bounds c.args.hours c.args.hour (pairs_of c.args.shares)) e in
+    let e : c.loop-i.i ≡ heating_hours = omega arith in
+    c.loop-i.invariant.1 ∙ ap (gathered_bounds c.args.hours c.args.hour (pairs_of c.args.shares)) e in
     let above_zero : 0 < common_divisor c.args.hours = divisor_above_zero c.args.hours c.requires.0.loaded in
     record {
       divisor = rw c.requires.2.is above_zero;
@@ -57,7 +56,7 @@ unfolding heating_bounds
 returns c =
     let above_zero : 0 < common_divisor c.args.hours = divisor_above_zero c.args.hours c.requires.0.loaded in
     let whole_sum : c.loop-i.sum ≡ gathered_bounds c.args.hours c.args.hour (pairs_of c.args.shares) heating_hours =
-        let e : c.loop-i.i ≡ heating_hours = omega arith in
-        c.loop-i.invariant.1 ∙ ap (gathered_bounds c.args.hours c.args.hour (pairs_of c.args.shares)) e in
+    let e : c.loop-i.i ≡ heating_hours = omega arith in
+    c.loop-i.invariant.1 ∙ ap (gathered_bounds c.args.hours c.args.hour (pairs_of c.args.shares)) e in
     let quotient : c.divided.result ≡ heating_bounds (pairs_of c.args.shares) c.args.hours c.args.hour = c.divided.ensures.is ∙ ap₂ divided_b whole_sum c.requires.2.is in
     (quotient, rw quotient (sum_sized _ _ (pairs_of c.args.shares) c.requires.0.sized above_zero))

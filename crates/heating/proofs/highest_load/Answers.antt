@@ -17,8 +17,8 @@ loop-k-preserved c =
     let v = c.loop-k in
     let hours = c.args.hours in
     elim c.if-highest-hours.branch [
-      then-highest-hours w ↦ (omega arith, w.highest-is ∙ highest_higher hours v.k v.invariant.1 w.if-highest-hours.true)
-    | else-highest-hours w ↦ (omega arith, w.highest-is ∙ highest_kept hours v.k v.invariant.1 w.if-highest-hours.false)
+      | then-highest-hours w ↦ (omega arith, w.highest-is ∙ highest_higher hours v.k v.invariant.1 w.if-highest-hours.true)
+      | else-highest-hours w ↦ (omega arith, w.highest-is ∙ highest_kept hours v.k v.invariant.1 w.if-highest-hours.false)
     ]
 
 pub returns : goal.returns

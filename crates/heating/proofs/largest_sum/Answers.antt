@@ -36,12 +36,12 @@ pub loop-hour-preserved : goal.loop-hour-preserved
 loop-hour-preserved c =
     let s = c.args in
     elim c.if-largest-sum.branch [
-      then-largest-sum w ↦ (
+      | then-largest-sum w ↦ (
         omega arith,
         w.largest-is ∙ hotter_here (pairs_of s.shares) s.hours c.loop-hour.hour c.loop-hour.invariant.1 c.heating_sum-sum.ensures.0 c.loop-hour.invariant.2 c.heating_sum-sum.ensures.1 w.if-largest-sum.true,
         rw w.largest-is c.heating_sum-sum.ensures.1,
       )
-    | else-largest-sum w ↦ (
+      | else-largest-sum w ↦ (
         omega arith,
         w.largest-is ∙ hotter_kept (pairs_of s.shares) s.hours c.loop-hour.hour c.loop-hour.invariant.1 c.heating_sum-sum.ensures.0 c.loop-hour.invariant.2 c.heating_sum-sum.ensures.1 w.if-largest-sum.false,
         rw w.largest-is c.loop-hour.invariant.2,

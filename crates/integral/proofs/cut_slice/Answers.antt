@@ -2,7 +2,6 @@
 use mathlib.Core.Path.{◌∙◌}
 use native.Mathlib.Omega.{arith}
 use Rattle.integral.proofs.Slices.{cut_is_slice, cut_some, cut_none}
-use borrow.Author.Rules.{rules}
 use Rattle.integral.proofs.cut_slice.Goals as goal
 
 pub end_exp-decay-requires : goal.end_exp-decay-requires

@@ -4,7 +4,6 @@ use native.Mathlib.Omega.{arith}
 use Rattle.bounds.specs.Pair.{as_bounds}
 use Rattle.integral.proofs.Rows.{exp_row}
 use Rattle.integral.proofs.Slices.{far_beyond, far_at_knot}
-use borrow.Author.Rules.{rules}
 use Rattle.integral.proofs.far_exp.Goals as goal
 
 pub returns-then-diffusion-near : goal.returns-then-diffusion-near

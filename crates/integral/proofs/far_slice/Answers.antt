@@ -5,7 +5,6 @@ use Rattle.numbers.proofs.Machine.{result_seen}
 use Rattle.bounds.specs.Pair.{as_bounds}
 use Rattle.model.proofs.FarSlice.{far_pair_near}
 use Rattle.integral.proofs.Slices.{far_room, far_slice_is}
-use borrow.Author.Rules.{rules}
 use Rattle.integral.proofs.far_slice.Goals as goal
 
 pub scaled_mul-requires : goal.scaled_mul-requires

@@ -3,7 +3,6 @@ use native.Mathlib.Omega.{arith}
 use Rattle.bounds.proofs.Pairs.{scaled_pair}
 use Rattle.model.proofs.Slice.{theta_half}
 use Rattle.integral.proofs.Slices.{slice_fractions, height_room, area_room, heat_slice_is}
-use borrow.Author.Rules.{rules}
 use Rattle.integral.proofs.heat_slice.Goals as goal
 
 pub series-requires : goal.series-requires

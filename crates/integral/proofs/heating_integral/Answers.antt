@@ -5,7 +5,6 @@ use Rattle.model.specs.Integral.{heating_integral}
 use Rattle.model.proofs.FarSlice.{far_pair_under_top}
 use Rattle.model.proofs.Parts.{unit_sum_under}
 use Rattle.series.proofs.UpTo.{pair_up_to}
-use borrow.Author.Rules.{rules}
 use Rattle.integral.proofs.heating_integral.Goals as goal
 
 pub unit_slices-to_one-requires : goal.unit_slices-to_one-requires

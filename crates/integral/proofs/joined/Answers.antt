@@ -2,7 +2,6 @@
 use mathlib.Core.Path.{◌∙◌}
 use Rattle.numbers.proofs.Machine.{result_seen}
 use Rattle.integral.proofs.Slices.{joint_room, joint_is}
-use borrow.Author.Rules.{rules}
 use Rattle.integral.proofs.joined.Goals as goal
 
 pub add-requires : goal.add-requires

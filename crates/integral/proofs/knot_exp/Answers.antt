@@ -3,7 +3,6 @@ use mathlib.Core.Path.{ap, ◌∙◌}
 use native.Mathlib.Omega.{arith}
 use Rattle.bounds.specs.Pair.{as_bounds}
 use Rattle.integral.proofs.Rows.{exp_row}
-use borrow.Author.Rules.{rules}
 use Rattle.integral.proofs.knot_exp.Goals as goal
 
 pub returns : goal.returns

@@ -1,9 +1,8 @@
 -- The loop counts the doublings; each is ln 2, and the rest is one slice. Assumes nothing.
 use mathlib.Core.Path.{◌∙◌}
-use Prim.Native.Nat.{◌-◌}
 use native.Mathlib.Omega.{arith}
 use Rattle.bounds.proofs.Pairs.{times_pair}
-use Rattle.integral.proofs.Doublings.{ln_two, DoublingTurn, doubling_begin, doubling_again, doubling_done, rest_octave, doublings_room, rest_room}
+use Rattle.integral.proofs.Doublings.{ln_two, doubling_begin, doubling_again, doubling_done, rest_octave, doublings_room, rest_room}
 use Rattle.integral.proofs.logarithm.Goals as goal
 
 pub loop-base-init : goal.loop-base-init

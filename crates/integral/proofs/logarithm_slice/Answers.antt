@@ -4,7 +4,6 @@ use Rattle.bounds.proofs.Pairs.{scaled_pair}
 use Rattle.model.specs.Scale.{one}
 use Rattle.model.specs.Logarithm.{logarithm_slice}
 use Rattle.integral.proofs.Slices.{octave_theta, octave_fractions, octave_room}
-use borrow.Author.Rules.{rules}
 use Rattle.integral.proofs.logarithm_slice.Goals as goal
 
 pub overflow_add-theta : goal.overflow_add-theta

@@ -4,7 +4,6 @@ use native.Mathlib.Omega.{arith}
 use Rattle.bounds.specs.Pair.{as_bounds}
 use Rattle.model.proofs.Parts.{part_whole, part_beyond, part_not_near, part_not_far}
 use Rattle.series.proofs.UpTo.{up_to_is}
-use borrow.Author.Rules.{rules}
 use Rattle.integral.proofs.part_slice.Goals as goal
 
 pub returns-then-far-x : goal.returns-then-far-x

@@ -2,7 +2,6 @@
 use mathlib.Core.Path.{◌∙◌}
 use Rattle.numbers.proofs.Machine.{result_seen}
 use Rattle.bounds.proofs.Enclosure.{same_ends}
-use borrow.Author.Rules.{rules}
 use Rattle.integral.proofs.row.Goals as goal
 
 pub returns : goal.returns

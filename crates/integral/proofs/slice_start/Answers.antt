@@ -2,7 +2,6 @@
 use mathlib.Core.Path.{sym, ◌∙◌}
 use native.Mathlib.Omega.{arith}
 use Rattle.model.proofs.FarSlice.{slice_start_far, slice_start_near}
-use borrow.Author.Rules.{rules}
 use Rattle.integral.proofs.slice_start.Goals as goal
 
 pub returns-then-edge-far : goal.returns-then-edge-far

@@ -6,8 +6,7 @@ use Rattle.bounds.specs.Pair.{as_bounds}
 use Rattle.model.specs.Scale.{units}
 use Rattle.model.specs.Integral.{unit_slice}
 use Rattle.integral.proofs.Rows.{unit_row}
-use Rattle.integral.proofs.Turns.{UnitTurn, unit_begin, unit_few, unit_inside, unit_whole, unit_joint, unit_again, unit_done}
-use borrow.Author.Rules.{rules}
+use Rattle.integral.proofs.Turns.{unit_begin, unit_few, unit_inside, unit_whole, unit_joint, unit_again, unit_done}
 use Rattle.integral.proofs.unit_slices.Goals as goal
 
 pub overflow_mul-y : goal.overflow_mul-y

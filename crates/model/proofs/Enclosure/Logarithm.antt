@@ -1,6 +1,6 @@
 -- The logarithm's pair encloses ln: the doublings and the rest are exact slices laid end to end. The stretch from x to y may be scaled by any c, so
 -- that two logarithms are laid end to end as well: twice the logarithm of y/x is that of y²/x².
-use Prim.Native.Nat.{ℕ, zero, suc, ◌+◌, ◌*◌, ◌-◌, ◌≤◌, ◌<◌}
+use Prim.Native.Nat.{ℕ, zero, suc, ◌*◌, ◌-◌, ◌≤◌, ◌<◌}
 use mathlib.Core.Path.{◌≡◌, refl}
 use mathlib.Core.List.{List, [], ◌∷◌, ◌++◌}
 use native.Mathlib.Nat.{mul-pos, mul-le-mul_left}

@@ -1,10 +1,7 @@
 -- The loop's invariant: what the first outside is from the value at hand on is what it is from the first on. Assumes nothing.
-use mathlib.Core.Path.{◌≡◌, sym, ◌∙◌}
-use Prim.Native.Nat.{◌≤◌, ◌-◌}
+use mathlib.Core.Path.{sym, ◌∙◌}
 use borrow.Author.Rules.{rules}
-use lib.ListN.{length}
-use Rattle.ranges.specs.Ranges.{ranges_of, first_outside}
-use Rattle.ranges.proofs.Ranges.{outside_from, from_first, from_outside, from_passed, from_last}
+use Rattle.ranges.proofs.Ranges.{from_first, from_outside, from_passed, from_last}
 use Rattle.ranges.proofs.first_outside.Goals as goal
 
 pub loop-i-init : goal.loop-i-init
@@ -12,11 +9,11 @@ loop-i-init c = (search rules, from_first _ _)
 
 pub returns-then-outside : goal.returns-then-outside
 returns-then-outside c =
-        sym (from_outside _ _ c.loop-i.i (search rules) (search rules) (sym c.outside.ensures ∙ c.if-outside.true)) ∙ c.loop-i.invariant.1
+    sym (from_outside _ _ c.loop-i.i (search rules) (search rules) (sym c.outside.ensures ∙ c.if-outside.true)) ∙ c.loop-i.invariant.1
 
 pub loop-i-preserved : goal.loop-i-preserved
 loop-i-preserved c =
-        (search rules, sym (from_passed _ _ c.loop-i.i (search rules) (search rules) (sym c.outside.ensures ∙ c.if-outside.false)) ∙ c.loop-i.invariant.1)
+    (search rules, sym (from_passed _ _ c.loop-i.i (search rules) (search rules) (sym c.outside.ensures ∙ c.if-outside.false)) ∙ c.loop-i.invariant.1)
 
 pub returns : goal.returns
 returns c = sym (from_last _ _ _ (search rules)) ∙ c.loop-i.invariant.1

@@ -1,10 +1,9 @@
 -- The loop's invariant: what the first outside is from the value at hand on is what it is from the first on. Assumes nothing.
-use mathlib.Core.Path.{◌≡◌, sym, ◌∙◌}
+use mathlib.Core.Path.{◌≡◌}
 use Prim.Native.Nat.{◌≤◌, ◌-◌}
-use borrow.Author.Rules.{rules}
 use lib.ListN.{length}
 use Rattle.ranges.specs.Ranges.{ranges_of, first_outside}
-use Rattle.ranges.proofs.Ranges.{outside_from, from_first, from_outside, from_passed, from_last}
+use Rattle.ranges.proofs.Ranges.{outside_from}
 use Rattle.ranges.proofs.first_outside.Given as goal
 
 abbrev pub invariant-loop-i : goal.invariant-loop-i

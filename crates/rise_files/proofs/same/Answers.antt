@@ -29,19 +29,19 @@ alike {a} {b} n k p c f s =
     e
 
 pub returns-then-a-b : goal.returns-then-a-b
-returns-then-a-b c = record { alike = λ e. absurd (never e); differ = λ _ e. c.if-a-b.true (ap (λ (p : Parts). p.number) e); }
+returns-then-a-b c = record { alike = λ e. absurd (never e); differ = λ _ e. c.if-a-b.true (ap (λ (p : Parts). p.number) e) }
 
 pub returns-then-a-b-2 : goal.returns-then-a-b-2
-returns-then-a-b-2 c = record { alike = λ e. absurd (never e); differ = λ _ e. c.if-a-b-2.true (ap (λ (p : Parts). p.kind) e); }
+returns-then-a-b-2 c = record { alike = λ e. absurd (never e); differ = λ _ e. c.if-a-b-2.true (ap (λ (p : Parts). p.kind) e) }
 
 pub returns-then-a-b-3 : goal.returns-then-a-b-3
-returns-then-a-b-3 c = record { alike = λ e. absurd (never e); differ = λ _ e. c.if-a-b-3.true (ap (λ (p : Parts). p.place) e); }
+returns-then-a-b-3 c = record { alike = λ e. absurd (never e); differ = λ _ e. c.if-a-b-3.true (ap (λ (p : Parts). p.place) e) }
 
 pub returns-then-a-b-4 : goal.returns-then-a-b-4
-returns-then-a-b-4 c = record { alike = λ e. absurd (never e); differ = λ _ e. c.if-a-b-4.true (ap (λ (p : Parts). p.count) e); }
+returns-then-a-b-4 c = record { alike = λ e. absurd (never e); differ = λ _ e. c.if-a-b-4.true (ap (λ (p : Parts). p.count) e) }
 
 pub returns-then-a-b-5 : goal.returns-then-a-b-5
-returns-then-a-b-5 c = record { alike = λ e. absurd (never e); differ = λ _ e. c.if-a-b-5.true (ap (λ (p : Parts). of_z w64 p.first) e); }
+returns-then-a-b-5 c = record { alike = λ e. absurd (never e); differ = λ _ e. c.if-a-b-5.true (ap (λ (p : Parts). of_z w64 p.first) e) }
 
 pub returns : goal.returns
 returns c =

@@ -1,6 +1,5 @@
 -- Each turn multiplies by e^(-1), and what is left to do has the same result. Assumes nothing.
-use native.Mathlib.Omega.{arith}
-use Rattle.series.proofs.Turns.{DecayTurn, decay_begin, decay_room, decay_again, decay_done}
+use Rattle.series.proofs.Turns.{DecayTurn}
 use Rattle.series.proofs.decayed.Given as goal
 
 abbrev pub invariant-loop-left : goal.invariant-loop-left

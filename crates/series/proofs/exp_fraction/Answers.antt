@@ -1,9 +1,8 @@
 -- The loop is the sum at each order, and the pair is 1 over it. Assumes nothing.
-use Prim.Native.Nat.{◌-◌}
 use native.Mathlib.Omega.{arith}
-use Rattle.model.specs.Scale.{one, exp_order}
+use Rattle.model.specs.Scale.{one}
 use Rattle.series.proofs.Products.{product_fits}
-use Rattle.series.proofs.Turns.{ExpTurn, exp_begin, exp_again, exp_quotient_room, exp_done}
+use Rattle.series.proofs.Turns.{exp_begin, exp_again, exp_quotient_room, exp_done}
 use Rattle.series.proofs.exp_fraction.Goals as goal
 
 pub loop-k-init : goal.loop-k-init

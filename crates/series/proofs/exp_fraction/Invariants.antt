@@ -1,9 +1,7 @@
 -- The loop is the sum at each order, and the pair is 1 over it. Assumes nothing.
 use Prim.Native.Nat.{◌-◌}
-use native.Mathlib.Omega.{arith}
-use Rattle.model.specs.Scale.{one, exp_order}
-use Rattle.series.proofs.Products.{product_fits}
-use Rattle.series.proofs.Turns.{ExpTurn, exp_begin, exp_again, exp_quotient_room, exp_done}
+use Rattle.model.specs.Scale.{exp_order}
+use Rattle.series.proofs.Turns.{ExpTurn}
 use Rattle.series.proofs.exp_fraction.Given as goal
 
 abbrev pub invariant-loop-k : goal.invariant-loop-k

@@ -7,7 +7,6 @@ use Rattle.model.specs.Scale.{one}
 use Rattle.model.proofs.Exponential.{fraction_exp_at_most_one, remainder_at_most_one, exp_far, exp_near}
 use Rattle.series.proofs.Products.{product_fits}
 use Rattle.series.proofs.UpTo.{pair_up_to}
-use borrow.Author.Rules.{rules}
 use Rattle.series.proofs.exp_neg.Goals as goal
 
 pub returns-then-whole-gt-FAR_FROM : goal.returns-then-whole-gt-FAR_FROM

@@ -1,10 +1,10 @@
 -- The loop is the series at each order; its pair is the sum and what may have been lost. Assumes nothing.
 use mathlib.Core.Path.{◌∙◌}
-use Prim.Native.Nat.{◌*◌, ◌-◌}
+use Prim.Native.Nat.{◌*◌}
 use native.Mathlib.Omega.{arith}
-use Rattle.model.specs.Scale.{one, half, series_order}
+use Rattle.model.specs.Scale.{one, half}
 use Rattle.series.proofs.Products.{product_fits}
-use Rattle.series.proofs.Turns.{SeriesTurn, series_begin, series_again, series_done}
+use Rattle.series.proofs.Turns.{series_begin, series_again, series_done}
 use Rattle.series.proofs.series.Goals as goal
 
 pub loop-k-init : goal.loop-k-init

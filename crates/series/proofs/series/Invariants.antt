@@ -1,10 +1,7 @@
 -- The loop is the series at each order; its pair is the sum and what may have been lost. Assumes nothing.
-use mathlib.Core.Path.{◌∙◌}
-use Prim.Native.Nat.{◌*◌, ◌-◌}
-use native.Mathlib.Omega.{arith}
-use Rattle.model.specs.Scale.{one, half, series_order}
-use Rattle.series.proofs.Products.{product_fits}
-use Rattle.series.proofs.Turns.{SeriesTurn, series_begin, series_again, series_done}
+use Prim.Native.Nat.{◌-◌}
+use Rattle.model.specs.Scale.{series_order}
+use Rattle.series.proofs.Turns.{SeriesTurn}
 use Rattle.series.proofs.series.Given as goal
 
 abbrev pub invariant-loop-k : goal.invariant-loop-k

@@ -46,8 +46,7 @@ pub returns-then-hours-gt6 : goal.returns-then-hours-gt6
 returns-then-hours-gt6 c = (all _ _ c.if-hours-eq0.false c.if-hours-gt6.true, search rules)
 
 pub returns : goal.returns
-returns c =
-    (
-      c.share.ensures.answer ∙ asked _ _ c.if-hours-eq0.false c.if-hours-gt6.false,
-      subst InMillionths (sym c.share.ensures.answer) (answer_in_millionths (given_cable c.args.cable) _),
-    )
+returns c = (
+  c.share.ensures.answer ∙ asked _ _ c.if-hours-eq0.false c.if-hours-gt6.false,
+  subst InMillionths (sym c.share.ensures.answer) (answer_in_millionths (given_cable c.args.cable) _),
+)

@@ -1,7 +1,6 @@
 -- An empty text has no sign.
 use mathlib.Core.Path.{sym}
 use native.Mathlib.Omega.{arith}
-use borrow.Author.Rules.{rules}
 use Rattle.text.proofs.Signs.{no_minus}
 use Rattle.text.proofs.has_minus.Goals as goal
 

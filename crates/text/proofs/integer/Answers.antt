@@ -1,6 +1,5 @@
 -- The test decides the definition, and the number is as it was signed.
 use mathlib.Core.Path.{ap, ◌∙◌}
-use borrow.Author.Rules.{rules}
 use borrow.Author.Tests.{lt-ltb, le-ltb}
 use Rattle.numbers.proofs.Machine.{result_seen}
 use Rattle.text.specs.declared.Signed.TheVariants.{Integer}

@@ -1,7 +1,6 @@
 -- The number is at most the most, so that it fits 32 bits.
 use mathlib.Core.Path.{ap, sym, ◌∙◌}
 use native.Mathlib.Omega.{arith}
-use borrow.Author.Rules.{rules}
 use Rattle.text.proofs.Digits.{as_number, number_is_spelled, at_most}
 use Rattle.text.proofs.number_of.Goals as goal
 

@@ -1,5 +1,4 @@
 -- What the kit's comparison ensures says the same as the definition.
-use borrow.Author.Rules.{rules}
 use Rattle.text.proofs.Equality.{same_is}
 use Rattle.text.proofs.same.Goals as goal
 

@@ -1,7 +1,6 @@
 -- A text with a sign has a byte to leave out.
 use mathlib.Core.Path.{ap, sym, ◌∙◌}
 use mathlib.Core.Bool.{true, false}
-use borrow.Author.Rules.{rules}
 use Rattle.text.specs.Reading.{as_integer}
 use Rattle.text.proofs.Signs.{some_byte, after_minus, without_minus}
 use Rattle.text.proofs.signed_of.Goals as goal

@@ -1,10 +1,7 @@
 -- The loop's invariant: the bytes passed are digits, and the number is what they spell, held at the most. The measure is what is left of the text.
-use mathlib.Core.Path.{sym, ◌∙◌}
 use Prim.Native.Nat.{◌-◌}
-use native.Mathlib.Omega.{arith}
-use borrow.Author.Tests.{not-true, not-false}
 use lib.ListN.{length}
-use Rattle.text.proofs.Digits.{Passed, none_passed, passes, stops, ends, none_spelled, digit_from}
+use Rattle.text.proofs.Digits.{Passed}
 use Rattle.text.proofs.spelled_by.Given as goal
 
 abbrev pub invariant-loop-i : goal.invariant-loop-i

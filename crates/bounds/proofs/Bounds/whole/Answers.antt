@@ -1,6 +1,5 @@
 -- The point of the number as it is cast. Assumes nothing.
 use mathlib.Core.Path.{◌∙◌, ap}
-use borrow.Author.Rules.{rules}
 use Rattle.numbers.proofs.Machine.{result_seen}
 use Rattle.bounds.specs.Operations.{point_b}
 use Rattle.bounds.proofs.Enclosure.{point}

@@ -24,14 +24,14 @@ returns-in_default c =
 pub returns-in_default-number_of : goal.returns-in_default-number_of
 unfolding by_exact
 returns-in_default-number_of c =
-    let floor_is : signed_of (part_at point 0 (value_in exact_name c.args.results.now)) ≡ Integer c.in-Integer.floor = 
+    let floor_is : signed_of (part_at point 0 (value_in exact_name c.args.results.now)) ≡ Integer c.in-Integer.floor =
     sym (c.signed_of.ensures ∙ ap signed_of (c.part.ensures ∙ ap (part_at point 0) c.value-exact.ensures)) ∙ c.in-Integer.is in
     rw (floor_is, sym (c.number_of.ensures ∙ digits c.args.results.now c.part-2.ensures c.value-exact.ensures) ∙ c.in_default-number_of.is) refl
 
 pub returns : goal.returns
 unfolding by_exact
 returns c =
-    let floor_is : signed_of (part_at point 0 (value_in exact_name c.args.results.now)) ≡ Integer c.in-Integer.floor = 
+    let floor_is : signed_of (part_at point 0 (value_in exact_name c.args.results.now)) ≡ Integer c.in-Integer.floor =
     sym (c.signed_of.ensures ∙ ap signed_of (c.part.ensures ∙ ap (part_at point 0) c.value-exact.ensures)) ∙ c.in-Integer.is in
     let floor_fits : SFits w64 c.in-Integer.floor = search rules in
     rw (floor_is, sym (c.number_of.ensures ∙ digits c.args.results.now c.part-2.ensures c.value-exact.ensures) ∙ c.in-Whole.is)

@@ -1,11 +1,11 @@
 -- The loop's invariant: the bytes are those of the line with the first i of the text put after them. The measure is what is left of the text.
 use mathlib.Core.Path.{◌≡◌, refl}
-use Prim.Native.Nat.{◌+◌, ◌-◌, ◌≤◌, ◌<◌}
+use Prim.Native.Nat.{◌+◌, ◌≤◌, ◌<◌}
 use native.Mathlib.Numerals.{add-one}
 use native.Mathlib.Omega.{arith}
 use borrow.Author.Rules.{rules}
 use lib.ListN.{length}
-use lib.Seq.{paste, paste-zero, paste-suc, take-paste, take-length}
+use lib.Seq.{paste-zero, paste-suc, take-paste, take-length}
 use Rattle.text.specs.Writing.{line_room}
 use Rattle.text.proofs.Line.with.Goals as goal
 

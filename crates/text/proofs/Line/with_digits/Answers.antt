@@ -1,6 +1,5 @@
 -- The digits are those of the number's decimal text.
 use mathlib.Core.Path.{◌≡◌, ◌∙◌}
-use borrow.Author.Rules.{rules}
 use lib.ListN.{take}
 use Rattle.text.specs.Writing.{decimal_text}
 use Rattle.text.proofs.Decimal.{as_written}
