@@ -9,7 +9,7 @@ use native.Mathlib.Omega.{arith}
 use lib.Dec.{T}
 use borrow.Author.Count.{below_more}
 use lib.IntN.{pos, neg_ℤ, ◌-ℤ◌, ◌*ℤ◌}
-use Rattle.numbers.specs.Fraction.{◌≼◌, ◌≈◌, whole, ◌⊕◌, ◌⊗◌}
+use Rattle.numbers.specs.Fraction.{◌≈◌, whole, ◌⊕◌, ◌⊗◌}
 use Rattle.numbers.specs.Signed.{Signed, ◌≼ₛ◌, of_frac, of_int, add_s, mul_s, max_s, least4}
 use Rattle.numbers.specs.Integer.{up, dn}
 use Rattle.numbers.proofs.Fractions.{whole≼}

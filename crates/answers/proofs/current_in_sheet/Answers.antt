@@ -1,5 +1,4 @@
 -- The current of a sheet, and its line.
-use borrow.Author.Rules.{rules}
 use Rattle.answers.proofs.current_in_sheet.Goals as goal
 
 pub returns : goal.returns

@@ -1,5 +1,4 @@
 -- The current of the numbers' cable, and its line.
-use borrow.Author.Rules.{rules}
 use Rattle.answers.proofs.current_of.Goals as goal
 
 pub returns : goal.returns

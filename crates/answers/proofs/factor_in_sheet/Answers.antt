@@ -1,5 +1,4 @@
 -- The factor of a sheet, and its line.
-use borrow.Author.Rules.{rules}
 use Rattle.answers.proofs.factor_in_sheet.Goals as goal
 
 pub returns : goal.returns

@@ -1,5 +1,4 @@
 -- The factor of the numbers' cable and hours, and its line.
-use borrow.Author.Rules.{rules}
 use Rattle.answers.proofs.factor_of.Goals as goal
 
 pub returns : goal.returns

@@ -1,5 +1,4 @@
 -- The line of each question is its own.
-use borrow.Author.Rules.{rules}
 use Rattle.answers.proofs.of_cable.Goals as goal
 
 pub returns-in-Share : goal.returns-in-Share

@@ -1,5 +1,4 @@
 -- The share of a sheet, and its line.
-use borrow.Author.Rules.{rules}
 use Rattle.answers.proofs.share_in_sheet.Goals as goal
 
 pub returns : goal.returns

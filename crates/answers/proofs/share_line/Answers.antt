@@ -1,5 +1,4 @@
 -- The line of what the answer states.
-use borrow.Author.Rules.{rules}
 use Rattle.answers.proofs.share_line.Goals as goal
 
 pub returns : goal.returns

@@ -1,5 +1,4 @@
 -- The share of the numbers' cable, and its line.
-use borrow.Author.Rules.{rules}
 use Rattle.answers.proofs.share_of.Goals as goal
 
 pub returns : goal.returns

@@ -1,10 +1,9 @@
 -- The loop's invariant: the hours so far are those of the numbers. The measure is what is left of the day.
 use mathlib.Core.Path.{◌≡◌, refl, ◌∙◌}
 use mathlib.Core.List.{List}
-use Prim.Native.Nat.{ℕ, ◌+◌, ◌-◌, ◌≤◌, ◌<◌, min}
+use Prim.Native.Nat.{ℕ, ◌+◌, ◌<◌, min}
 use lib.ListN.{get_or, set, length-set}
 use native.Mathlib.Omega.{arith}
-use borrow.Author.Rules.{rules}
 use Rattle.numbers.proofs.Filling.{one_more}
 use Rattle.asked.specs.Hours.{most_hour, HoursTo}
 use Rattle.asked.proofs.hours_from.Goals as goal

@@ -1,7 +1,6 @@
 -- A cable's fields come before what is asked, where no file is named.
 use mathlib.Core.Path.{refl}
 use native.Mathlib.Omega.{arith}
-use borrow.Author.Rules.{rules}
 use Rattle.asked.proofs.wanted.Goals as goal
 
 pub returns-else-named : goal.returns-else-named

@@ -4,7 +4,6 @@ use Rattle.bounds.specs.Pair.{Pair, as_bounds, as_pair}
 use Rattle.model.specs.Scale.{exactly}
 use Rattle.model.specs.Share.{beta, surface_factor}
 use Rattle.attained.proofs.Parts.{factor_asked, share_room, share_is}
-use borrow.Author.Rules.{rules}
 use Rattle.attained.proofs.attained_share.Goals as goal
 
 pub surface_factor-surface-requires : goal.surface_factor-surface-requires

@@ -9,7 +9,6 @@ use Rattle.model.specs.Share.{attainment_of, attainment}
 use Rattle.series.proofs.Products.{product_fits}
 use Rattle.attained.specs.Asked.{most_rate, most_seconds}
 use Rattle.attained.proofs.Parts.{weighted_room, weighted_is, yet_to_rise, yet_to_rise_room, yet_to_rise_part, risen_room}
-use borrow.Author.Rules.{rules}
 use Rattle.attained.proofs.attainment.Goals as goal
 
 pub overflow_mul-fast : goal.overflow_mul-fast

@@ -3,7 +3,6 @@ use Rattle.bounds.specs.Operations.{quotient_b}
 use Rattle.bounds.proofs.Pairs.{at_most_pair}
 use Rattle.model.specs.Scale.{beta_one}
 use Rattle.model.specs.Share.{beta}
-use borrow.Author.Rules.{rules}
 use Rattle.attained.proofs.beta.Goals as goal
 
 pub returns : goal.returns

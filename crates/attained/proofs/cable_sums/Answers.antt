@@ -6,7 +6,6 @@ use Rattle.bounds.proofs.Pairs.{times_pair}
 use Rattle.model.specs.Share.{cable_logarithm}
 use Rattle.series.proofs.Products.{product_fits}
 use Rattle.attained.proofs.Sources.{cable_times_room, cable_heat_asked}
-use borrow.Author.Rules.{rules}
 use Rattle.attained.proofs.cable_sums.Goals as goal
 
 pub times-logarithm-requires : goal.times-logarithm-requires

@@ -4,7 +4,6 @@ use Rattle.exact.specs.Share.{Source}
 use Rattle.bounds.specs.Pair.{as_bounds}
 use Rattle.model.specs.Share.{source_logarithm, source_integral}
 use Rattle.attained.proofs.Sources.{source_heat_asked, heat_room, logarithm_room, joined_is}
-use borrow.Author.Rules.{rules}
 use Rattle.attained.proofs.joined.Goals as goal
 
 pub heat_of-heat-requires : goal.heat_of-heat-requires

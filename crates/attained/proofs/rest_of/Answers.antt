@@ -1,6 +1,5 @@
 -- A difference is the sum with the negation. Assumes nothing.
 use Rattle.attained.proofs.Parts.{rest_negates, rest_room, rest_is}
-use borrow.Author.Rules.{rules}
 use Rattle.attained.proofs.rest_of.Goals as goal
 
 pub neg-requires : goal.neg-requires

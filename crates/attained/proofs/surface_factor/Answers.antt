@@ -2,7 +2,6 @@
 use mathlib.Core.Path.{refl}
 use Rattle.model.specs.Share.{surface_factor}
 use Rattle.attained.proofs.Parts.{factor_room, lost_is, lost_part}
-use borrow.Author.Rules.{rules}
 use Rattle.attained.proofs.surface_factor.Goals as goal
 
 pub scaled_mul-requires : goal.scaled_mul-requires

@@ -1,5 +1,4 @@
 -- The two tests are those of the definition, in its order. Assumes nothing.
-use borrow.Author.Rules.{rules}
 use borrow.Author.Tests.{lt-ltb, le-ltb}
 use Rattle.cable_rules.specs.Checks.{checked}
 use Rattle.cable.proofs.check_cable.Goals as goal

@@ -1,6 +1,5 @@
 -- Case by case, what the check gives. Assumes nothing.
 use mathlib.Core.Path.{sym, ◌∙◌}
-use borrow.Author.Rules.{rules}
 use Rattle.cable_rules.proofs.Acceptance.{check_given, check_refused}
 use Rattle.cable.proofs.given.Goals as goal
 

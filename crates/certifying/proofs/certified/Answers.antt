@@ -1,6 +1,5 @@
 -- The test is that of the rule with both sides moved, and its products stay below 2^64. Assumes nothing.
 use mathlib.Core.Path.{refl}
-use borrow.Author.Rules.{rules}
 use native.Mathlib.Omega.{arith}
 use Rattle.emergency_rules.proofs.Certifying.{certified_moved, Products, products}
 use Rattle.certifying.proofs.certified.Goals as goal

@@ -1,12 +1,8 @@
 -- The bisection ends with a certified current whose successor is not certified, or is past 10,000. Assumes nothing.
-use mathlib.Core.Path.{sym, ◌∙◌}
 use Prim.Native.Nat.{◌-◌}
 use lib.IntN.{pos}
-use native.Mathlib.Omega.{arith}
-use Rattle.numbers.proofs.Integers.{lin_le}
-use Rattle.numbers.proofs.Largest.{Between, whole_range, upper_part, lower_part, bisected}
+use Rattle.numbers.proofs.Largest.{Between}
 use Rattle.emergency_rules.specs.Certifying.{certified, most_current}
-use Rattle.emergency_rules.proofs.Certifying.{certified_falls, nothing_certified}
 use Rattle.certifying.proofs.largest_certified.Given as goal
 
 abbrev pub invariant-loop-high : goal.invariant-loop-high

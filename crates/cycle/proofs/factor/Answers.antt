@@ -1,6 +1,5 @@
 -- `cycle::factor` answers for what a cable gives. Assumes nothing.
 use mathlib.Core.Path.{sym}
-use borrow.Author.Rules.{rules}
 use borrow.Kind.Array.{good_length, e_int}
 use mir.Syntax.{w16}
 use Rattle.cycle_rules.specs.Day.{day_hours}

@@ -1,6 +1,5 @@
 -- `cycle::factor_given` hands on the refusal of what was handed in, or answers for what is given. Assumes nothing.
 use mathlib.Core.Path.{ap}
-use borrow.Author.Rules.{rules}
 use Rattle.sheet_rules.specs.Sheet.{as_given_in}
 use Rattle.cycle_rules.proofs.Answers.{answer_given, answer_refused}
 use Rattle.cycle.proofs.factor_given.Goals as goal

@@ -1,7 +1,6 @@
 -- `cycle::factor_of` refuses by 10, then by 11, or gives the day's factor. Assumes nothing.
 use mathlib.Core.Path.{sym, ◌∙◌}
 use native.Mathlib.Omega.{arith}
-use borrow.Author.Rules.{rules}
 use borrow.Kind.Array.{good_length, e_int}
 use mir.Syntax.{w16}
 use Rattle.cycle_rules.specs.Day.{day_hours}

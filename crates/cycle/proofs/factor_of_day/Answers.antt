@@ -1,15 +1,11 @@
 -- The loop fills the six shares; the share of an accepted group is not refused at a whole hour. Assumes nothing.
 use mathlib.Core.Path.{refl, sym, ap, ◌∙◌}
-use Prim.Native.Nat.{◌-◌, ◌≤◌}
 use native.Mathlib.Omega.{arith}
-use borrow.Author.Rules.{rules}
 use Rattle.bounds.specs.declared.Bounds.{Bounds}
-use Rattle.sheet_rules.specs.Sheet.{group_in}
-use Rattle.cycle_rules.specs.Heating.{heating_hours}
 use Rattle.cycle_rules.specs.Factor.{largest_factor}
 use Rattle.cycle_rules.specs.declared.FactorAnswer.TheVariants.{Factor}
 use Rattle.cycle_rules.proofs.Answers.{hour_answered, hour_not_refused}
-use Rattle.cycle_rules.proofs.Shares.{Filled, none_filled, next_filled, filled_shared, same_largest}
+use Rattle.cycle_rules.proofs.Shares.{none_filled, next_filled, filled_shared, same_largest}
 use Rattle.cycle.proofs.factor_of_day.Goals as goal
 
 pub loop-i-init : goal.loop-i-init

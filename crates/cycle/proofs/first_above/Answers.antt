@@ -1,12 +1,9 @@
 -- The loop stops at the first hour above 4,000 A, or past the last. Assumes nothing.
-use mathlib.Core.Path.{◌≡◌, refl, sym, ◌∙◌}
-use Prim.Native.Nat.{◌-◌, ◌≤◌}
+use mathlib.Core.Path.{refl, sym, ◌∙◌}
 use native.Mathlib.Omega.{arith}
 use borrow.Kind.Array.{good_length, e_int}
-use lib.ListN.{length, drop}
 use mir.Syntax.{w16}
 use Rattle.cycle_rules.specs.Day.{day_hours}
-use Rattle.cycle_rules.specs.Answer.{first_above}
 use Rattle.cycle_rules.proofs.Day.{above_here, above_later, above_none}
 use Rattle.cycle.proofs.first_above.Goals as goal
 

@@ -1,6 +1,5 @@
 -- `emergency::current` answers for what a cable gives. Assumes nothing.
 use mathlib.Core.Path.{sym}
-use borrow.Author.Rules.{rules}
 use Rattle.cable_rules.proofs.Acceptance.{given_sound}
 use Rattle.emergency_rules.proofs.Answers.{rated_share, answer_after, answer_given}
 use Rattle.emergency_rules.proofs.Said.{said}

@@ -1,6 +1,5 @@
 -- `emergency::current_in_sheet` answers for what a sheet gives. Assumes nothing.
 use mathlib.Core.Path.{sym}
-use borrow.Author.Rules.{rules}
 use Rattle.sheet_rules.proofs.SheetChecks.{sheet_sound}
 use Rattle.emergency_rules.proofs.Answers.{rated_share, answer_after, answer_given}
 use Rattle.emergency_rules.proofs.Said.{said}

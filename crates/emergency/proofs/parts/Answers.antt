@@ -1,6 +1,5 @@
 -- Case by case, what the answer states. Assumes nothing.
 use mathlib.Core.Path.{sym, ap, ◌∙◌}
-use borrow.Author.Rules.{rules}
 use Rattle.refusals.specs.Apart.{parts_of}
 use Rattle.emergency_rules.specs.Answer.{stated_current}
 use Rattle.emergency.proofs.parts.Goals as goal

@@ -1,6 +1,5 @@
 -- Case by case. Assumes nothing.
 use mathlib.Core.Path.{sym, ap}
-use borrow.Author.Rules.{rules}
 use Rattle.emergency_rules.specs.Asked.{rated_of}
 use Rattle.emergency.proofs.rated_of.Goals as goal
 

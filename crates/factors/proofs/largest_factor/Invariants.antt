@@ -1,10 +1,7 @@
 -- The bisection ends with an allowed factor whose successor is not allowed, or is past 5,000. Assumes nothing.
-use mathlib.Core.Path.{sym, ◌∙◌}
 use Prim.Native.Nat.{◌-◌}
-use native.Mathlib.Omega.{arith}
-use Rattle.numbers.proofs.Largest.{Between, whole_range, upper_part, lower_part, bisected}
+use Rattle.numbers.proofs.Largest.{Between}
 use Rattle.cycle_rules.specs.Factor.{allowed, most_factor}
-use Rattle.cycle_rules.proofs.FactorTest.{allowed_falls, nothing_allowed}
 use Rattle.factors.proofs.largest_factor.Given as goal
 
 abbrev pub invariant-loop-high : goal.invariant-loop-high

@@ -1,6 +1,5 @@
 -- Field by field, the cable of the definition.
 use Rattle.sheet_rules.specs.Header.{cable_of}
-use borrow.Author.Rules.{rules}
 use Rattle.header.proofs.cable_of.Goals as goal
 
 pub returns : goal.returns

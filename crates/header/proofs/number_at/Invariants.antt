@@ -1,9 +1,7 @@
 -- The loop's invariant: `number` is that of the bytes passed. The measure is what is left of the width.
-use mathlib.Core.Path.{◌≡◌, refl, ap, ◌∙◌}
-use Prim.Native.Nat.{◌+◌, ◌-◌, ◌^◌, ◌<◌, ◌≤◌}
-use native.Mathlib.Omega.{arith}
+use mathlib.Core.Path.{◌≡◌}
+use Prim.Native.Nat.{◌-◌, ◌≤◌}
 use Rattle.sheet_rules.specs.BigEndian.{big_endian}
-use Rattle.sheet_rules.proofs.BigEndian.{one_byte_more, below_wider}
 use Rattle.header.proofs.number_at.Given as goal
 
 abbrev pub invariant-loop-i : goal.invariant-loop-i

@@ -1,7 +1,6 @@
 -- A header is not short exactly where the length says so. Assumes nothing.
 use mathlib.Core.Path.{sym, ◌∙◌}
 use native.Mathlib.Omega.{arith}
-use borrow.Author.Rules.{rules}
 use Rattle.sheet_rules.proofs.RightLength.{short_second, long_second}
 use Rattle.header.proofs.second_link.Goals as goal
 

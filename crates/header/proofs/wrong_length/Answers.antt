@@ -1,5 +1,4 @@
 -- The two tests are those of the definition.
-use borrow.Author.Rules.{rules}
 use borrow.Author.Tests.{lt-ltb, le-ltb}
 use Rattle.sheet_rules.specs.Layout.{wrong_length}
 use Rattle.header.proofs.wrong_length.Goals as goal

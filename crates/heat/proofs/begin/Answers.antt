@@ -1,6 +1,5 @@
 -- The square in millionths fits. Assumes nothing.
 use native.Mathlib.Omega.{arith}
-use borrow.Author.Rules.{rules}
 use Rattle.history_rules.proofs.Sizes.{square_most}
 use Rattle.heat.proofs.begin.Goals as goal
 

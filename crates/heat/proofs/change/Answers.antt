@@ -2,7 +2,6 @@
 use mathlib.Core.Path.{◌≡◌, ap, ◌∙◌}
 use native.Mathlib.Omega.{arith}
 use lib.IntN.{pos}
-use borrow.Author.Rules.{rules}
 use Rattle.bounds.specs.Operations.{point_b, add_b}
 use Rattle.bounds.proofs.Sizes.{sized_more}
 use Rattle.history_rules.specs.Rise.{change_of}

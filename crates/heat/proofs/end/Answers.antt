@@ -1,5 +1,4 @@
 -- The squared rated current is no zero, and the sum leaves room to be rounded. Assumes nothing.
-use borrow.Author.Rules.{rules}
 use Rattle.history_rules.proofs.AtRecord.{divided_room}
 use Rattle.heat.proofs.end.Goals as goal
 

@@ -10,7 +10,6 @@ use Rattle.bounds.proofs.Sizes.{sized_more, add_sized, neg_sized}
 use Rattle.cycle_rules.specs.Heating.{relative_load}
 use Rattle.cycle_rules.specs.Asked.{most_divisor}
 use Rattle.cycle_rules.proofs.Heating.{difference_point}
-use borrow.Author.Rules.{rules}
 use Rattle.heating.proofs.gathered_load.Goals as goal
 
 pub neg-requires : goal.neg-requires

@@ -1,6 +1,6 @@
 -- The loop adds one share's term at a time, as the definition does. Assumes nothing.
 use mathlib.Core.Path.{◌≡◌, refl, ap, ap₂, ◌∙◌}
-use Prim.Native.Nat.{◌-◌, ◌<◌, ◌≤◌}
+use Prim.Native.Nat.{◌<◌, ◌≤◌}
 use native.Mathlib.Omega.{arith}
 use Rattle.bounds.specs.Operations.{divided_b}
 use Rattle.cycle_rules.specs.Heating.{heating_hours, common_divisor, gathered_bounds, heating_bounds}

@@ -1,10 +1,7 @@
 -- The loop takes one hour more at a time, as the definition does. Assumes nothing.
-use mathlib.Core.Path.{◌≡◌, refl, ap, ◌∙◌}
-use mathlib.Core.Logic.{⊎_elim}
+use mathlib.Core.Path.{◌≡◌}
 use Prim.Native.Nat.{◌-◌, ◌≤◌}
-use native.Mathlib.Omega.{arith}
 use Rattle.cycle_rules.specs.Day.{day_hours, highest_of}
-use Rattle.cycle_rules.proofs.Day.{highest_higher, highest_kept}
 use Rattle.heating.proofs.highest_load.Given as goal
 
 abbrev pub invariant-loop-k : goal.invariant-loop-k

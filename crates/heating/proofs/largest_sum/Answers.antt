@@ -1,12 +1,10 @@
 -- The loop takes one hour more at a time, as the definition does. Assumes nothing.
 use mathlib.Core.Path.{◌≡◌, sym, ap, ◌∙◌}
-use mathlib.Core.Logic.{⊎_elim}
-use Prim.Native.Nat.{ℕ, ◌-◌, ◌≤◌, ◌<◌}
+use Prim.Native.Nat.{ℕ, ◌<◌}
 use native.Mathlib.Omega.{arith}
-use Rattle.bounds.specs.Promises.{Sized}
 use Rattle.cycle_rules.specs.Day.{day_hours}
 use Rattle.cycle_rules.specs.Heating.{heating_bounds, heating_sum, latest_largest}
-use Rattle.cycle_rules.specs.Asked.{AtHour, most_sum, pairs_of}
+use Rattle.cycle_rules.specs.Asked.{AtHour, pairs_of}
 use Rattle.cycle_rules.proofs.HourByHour.{latest_first, hotter_here, hotter_kept}
 use Rattle.heating.proofs.largest_sum.Goals as goal
 use Rattle.heating.proofs.largest_sum.Goals.{then-largest-sum, else-largest-sum}

@@ -1,13 +1,10 @@
 -- The loop takes one hour more at a time, as the definition does. Assumes nothing.
-use mathlib.Core.Path.{◌≡◌, sym, ap, ◌∙◌}
-use mathlib.Core.Logic.{⊎_elim}
-use Prim.Native.Nat.{ℕ, ◌-◌, ◌≤◌, ◌<◌}
-use native.Mathlib.Omega.{arith}
+use mathlib.Core.Path.{◌≡◌}
+use Prim.Native.Nat.{◌-◌, ◌≤◌}
 use Rattle.bounds.specs.Promises.{Sized}
 use Rattle.cycle_rules.specs.Day.{day_hours}
 use Rattle.cycle_rules.specs.Heating.{heating_bounds, heating_sum, latest_largest}
-use Rattle.cycle_rules.specs.Asked.{AtHour, most_sum, pairs_of}
-use Rattle.cycle_rules.proofs.HourByHour.{latest_first, hotter_here, hotter_kept}
+use Rattle.cycle_rules.specs.Asked.{most_sum, pairs_of}
 use Rattle.heating.proofs.largest_sum.Given as goal
 
 abbrev pub invariant-loop-hour : goal.invariant-loop-hour

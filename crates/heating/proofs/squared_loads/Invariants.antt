@@ -1,10 +1,8 @@
 -- The loop adds one hour's square at a time, as the definition does. Assumes nothing.
-use mathlib.Core.Path.{◌≡◌, refl, ap, ◌∙◌}
+use mathlib.Core.Path.{◌≡◌}
 use Prim.Native.Nat.{◌*◌, ◌-◌, ◌≤◌}
-use native.Mathlib.Omega.{arith}
-use borrow.Author.Rules.{rules}
 use Rattle.cycle_rules.specs.Day.{day_hours, squared_loads}
-use Rattle.cycle_rules.proofs.Day.{most_square, square_to, squares_more}
+use Rattle.cycle_rules.proofs.Day.{most_square}
 use Rattle.heating.proofs.squared_loads.Given as goal
 
 abbrev pub invariant-loop-k : goal.invariant-loop-k

@@ -1,6 +1,5 @@
 -- The loop's invariant is `AtRecord`: at each record of the chain the answer of the rest is the sheet's. The measure is the record's minutes.
-use borrow.Author.Rules.{rules}
-use Rattle.history_rules.proofs.AtRecord.{ending, AtRecord, first_amperes, at_start, chain_ended, turn_refused, turn_next}
+use Rattle.history_rules.proofs.AtRecord.{ending, first_amperes, at_start, chain_ended, turn_refused, turn_next}
 use Rattle.history_rules.proofs.Said.{said}
 use Rattle.history.proofs.chain_rise.Goals as goal
 

@@ -1,6 +1,5 @@
 -- Case by case, what the answer states. Assumes nothing.
 use mathlib.Core.Path.{sym, ap, ◌∙◌}
-use borrow.Author.Rules.{rules}
 use Rattle.refusals.specs.Apart.{parts_of}
 use Rattle.history_rules.specs.Answer.{stated_rise}
 use Rattle.history.proofs.parts.Goals as goal

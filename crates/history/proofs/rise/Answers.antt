@@ -1,6 +1,5 @@
 -- The sheet's refusal passes out; an accepted sheet goes to the walk.
 use mathlib.Core.Path.{sym, ◌∙◌}
-use borrow.Author.Rules.{rules}
 use Rattle.history_rules.proofs.Walk.{sheet_refused, begins_plain}
 use Rattle.history_rules.proofs.Said.{said}
 use Rattle.history.proofs.rise.Goals as goal

@@ -1,5 +1,4 @@
 -- The share of the array's cable, taken apart and copied.
-use borrow.Author.Rules.{rules}
 use Rattle.kechmowad.proofs.Crossing.{crosses}
 use Rattle.kechmowad.proofs.kechmowad_share.Goals as goal
 

@@ -2,7 +2,6 @@
 use mathlib.Core.Path.{refl}
 use native.Mathlib.Omega.{arith}
 use borrow.Author.Tests.{lt-ltb, le-ltb}
-use borrow.Author.Rules.{rules}
 use Rattle.neighbours.proofs.aside.Goals as goal
 
 pub returns-then-offset-lt-NEGATIVE_FROM : goal.returns-then-offset-lt-NEGATIVE_FROM

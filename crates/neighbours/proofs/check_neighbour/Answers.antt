@@ -8,7 +8,6 @@ use Rattle.ranges.specs.Ranges.{outside, ◌to◌}
 use Rattle.ranges.proofs.Ranges.{passed_within}
 use Rattle.sheet_rules.specs.Neighbours.{neighbour_of, most_offset, least_depth, most_depth}
 use Rattle.sheet_rules.proofs.NeighbourChecks.{link_missing, link_not_above, offset_refused, depth_refused, near_refused, neighbour_accepted, near_most}
-use borrow.Author.Rules.{rules}
 use Rattle.neighbours.proofs.check_neighbour.Goals as goal
 
 pub returns-in_default : goal.returns-in_default

@@ -1,6 +1,5 @@
 -- `pair::pair_of` hands the sums and the cable's other fields on to the fixed point. Assumes nothing.
 use mathlib.Core.Path.{refl, sym, ◌∙◌}
-use borrow.Author.Rules.{rules}
 use Rattle.attained.proofs.Group.{attained_is}
 use Rattle.share_rules.specs.Pair.{share_pair_is}
 use Rattle.pair.proofs.AtNeighbour.{share_of_sums_asked}

@@ -3,9 +3,7 @@
 use Prim.Native.Nat.{◌*◌, ◌≤◌}
 use native.Mathlib.Nat.{mul-le-mul}
 use native.Mathlib.Omega.{arith}
-use borrow.Author.Rules.{rules}
-use Rattle.sheet_rules.specs.Neighbours.{above}
-use Rattle.pair.proofs.AtNeighbour.{group_from, AtNeighbour, begins_asked, begins, ends, not_missing, depths, nearer, joining, joined_next}
+use Rattle.pair.proofs.AtNeighbour.{begins_asked, begins, ends, not_missing, depths, nearer, joining, joined_next}
 use Rattle.pair.proofs.sums_in.Goals as goal
 
 pub overflow_mul-diffusion : goal.overflow_mul-diffusion

@@ -1,11 +1,7 @@
 -- The loop's invariant is `AtNeighbour`: what is summed and what is left is the group's whole sum. The measure is how many records stand above the one reached.
 -- Assumes nothing.
-use Prim.Native.Nat.{◌*◌, ◌≤◌}
-use native.Mathlib.Nat.{mul-le-mul}
-use native.Mathlib.Omega.{arith}
-use borrow.Author.Rules.{rules}
 use Rattle.sheet_rules.specs.Neighbours.{above}
-use Rattle.pair.proofs.AtNeighbour.{group_from, AtNeighbour, begins_asked, begins, ends, not_missing, depths, nearer, joining, joined_next}
+use Rattle.pair.proofs.AtNeighbour.{group_from, AtNeighbour}
 use Rattle.pair.proofs.sums_in.Given as goal
 
 abbrev pub invariant-loop-at : goal.invariant-loop-at

@@ -1,7 +1,6 @@
 -- Each return is one of the definition's ways out.
 use mathlib.Core.Path.{◌≡◌, sym, ◌∙◌}
 use mathlib.Core.Bool.{false}
-use borrow.Author.Rules.{rules}
 use Rattle.ranges.specs.Ranges.{outside, ◌to◌}
 use Rattle.sheet_rules.specs.Records.{least_minutes, most_minutes}
 use Rattle.sheet_rules.proofs.RecordChecks.{link_refused, minutes_refused, amperes_refused, order_refused, record_accepted}

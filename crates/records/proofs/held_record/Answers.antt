@@ -1,6 +1,5 @@
 -- Field by field, the record of the definition.
 use Rattle.sheet_rules.specs.Records.{record_of}
-use borrow.Author.Rules.{rules}
 use Rattle.records.proofs.held_record.Goals as goal
 
 pub returns : goal.returns

@@ -1,9 +1,7 @@
 -- The loop's invariant: for each row that is counted the rest has lost a byte. The measure is the length of the rest.
-use Prim.Native.Nat.{◌+◌, ◌≤◌, ◌<◌}
+use Prim.Native.Nat.{◌<◌}
 use native.Mathlib.Omega.{arith}
-use borrow.Author.Rules.{rules}
-use lib.ListN.{length, length-drop}
-use Rattle.reference_rows.specs.Counting.{rows_in}
+use lib.ListN.{length-drop}
 use Rattle.reference_rows.proofs.Marks.{all_left}
 use Rattle.reference_rows.proofs.rows.Goals as goal
 

@@ -1,10 +1,7 @@
 -- The loop's invariant: for each row that is counted the rest has lost a byte. The measure is the length of the rest.
-use Prim.Native.Nat.{◌+◌, ◌≤◌, ◌<◌}
-use native.Mathlib.Omega.{arith}
-use borrow.Author.Rules.{rules}
-use lib.ListN.{length, length-drop}
+use Prim.Native.Nat.{◌+◌, ◌≤◌}
+use lib.ListN.{length}
 use Rattle.reference_rows.specs.Counting.{rows_in}
-use Rattle.reference_rows.proofs.Marks.{all_left}
 use Rattle.reference_rows.proofs.rows.Given as goal
 
 abbrev pub invariant-loop-rest : goal.invariant-loop-rest

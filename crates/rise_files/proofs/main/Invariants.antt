@@ -1,6 +1,5 @@
 -- The measure is how many words are left. No count is above how many words were looked at.
 use Prim.Native.Nat.{◌-◌, ◌≤◌, ◌<◌}
-use borrow.Author.Rules.{rules}
 use Rattle.rise_files.specs.Words.{most_words}
 use Rattle.rise_files.proofs.main.Given as goal
 

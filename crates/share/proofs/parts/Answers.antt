@@ -1,6 +1,5 @@
 -- Case by case, what the answer states. Assumes nothing.
 use mathlib.Core.Path.{sym, ap, ◌∙◌}
-use borrow.Author.Rules.{rules}
 use Rattle.refusals.specs.Apart.{parts_of}
 use Rattle.share_rules.specs.Answer.{stated_share}
 use Rattle.share.proofs.parts.Goals as goal

@@ -1,6 +1,5 @@
 -- `share::share` answers for what a cable gives. Assumes nothing.
 use mathlib.Core.Path.{sym}
-use borrow.Author.Rules.{rules}
 use Rattle.cable_rules.proofs.Acceptance.{given_sound}
 use Rattle.share_rules.proofs.Answers.{answer_given}
 use Rattle.share_rules.proofs.Promises.{said}

@@ -1,6 +1,5 @@
 -- `share::share_of` refuses the minutes or gives the pair. Assumes nothing.
 use mathlib.Core.Path.{sym, ap, ◌∙◌}
-use borrow.Author.Rules.{rules}
 use Rattle.share_rules.specs.declared.ShareAnswer.TheVariants.{Pair}
 use Rattle.share_rules.proofs.Answers.{minutes_refused, minutes_accepted, share_given}
 use Rattle.share.proofs.share_of.Goals as goal

@@ -1,8 +1,6 @@
 -- The loop's invariant: the walk from the record that is reached comes to what the whole walk does. The measure is the turns left. Assumes nothing.
-use mathlib.Core.Path.{◌≡◌, refl, ◌∙◌}
-use borrow.Author.Rules.{rules}
-use Rattle.sheet_rules.specs.Promises.{turns_left}
-use Rattle.sheet_rules.proofs.EitherChain.{outcome_at, passes, is_refused, goes_nearer, stays}
+use mathlib.Core.Path.{refl, ◌∙◌}
+use Rattle.sheet_rules.proofs.EitherChain.{passes, is_refused, goes_nearer, stays}
 use Rattle.sheet.proofs.check_chain.Goals as goal
 
 pub loop-at-init : goal.loop-at-init

@@ -1,8 +1,7 @@
 -- The loop's invariant: the walk from the record that is reached comes to what the whole walk does. The measure is the turns left. Assumes nothing.
-use mathlib.Core.Path.{◌≡◌, refl, ◌∙◌}
-use borrow.Author.Rules.{rules}
+use mathlib.Core.Path.{◌≡◌}
 use Rattle.sheet_rules.specs.Promises.{turns_left}
-use Rattle.sheet_rules.proofs.EitherChain.{outcome_at, passes, is_refused, goes_nearer, stays}
+use Rattle.sheet_rules.proofs.EitherChain.{outcome_at}
 use Rattle.sheet.proofs.check_chain.Given as goal
 
 abbrev pub invariant-loop-at : goal.invariant-loop-at

@@ -1,5 +1,4 @@
 -- The check of each chain is its own. Assumes nothing.
-use borrow.Author.Rules.{rules}
 use Rattle.sheet.proofs.check_next.Goals as goal
 
 pub returns-in-Load : goal.returns-in-Load

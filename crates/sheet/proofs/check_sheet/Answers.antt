@@ -8,7 +8,6 @@ use Rattle.sheet_rules.specs.Promises.{outcome_of}
 use Rattle.sheet_rules.specs.declared.HeaderCheck.TheVariants.{Accepted}
 use Rattle.sheet_rules.specs.declared.ChainCheck.TheVariants as K
 use Rattle.sheet_rules.proofs.SheetChecks.{header_refused, load_walk_lem, neighbour_walk_lem, load_refused, neighbours_refused, sheet_accepted, in_ground}
-use borrow.Author.Rules.{rules}
 use Rattle.sheet.proofs.check_sheet.Goals as goal
 
 pub returns-in-Refused : goal.returns-in-Refused

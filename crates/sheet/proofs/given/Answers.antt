@@ -1,7 +1,6 @@
 -- Case by case, what the check gives. Assumes nothing.
 use mathlib.Core.Path.{sym, ◌∙◌}
 use Rattle.sheet_rules.proofs.SheetChecks.{given_by_header, refused_by_sheet}
-use borrow.Author.Rules.{rules}
 use Rattle.sheet.proofs.given.Goals as goal
 
 pub returns-in-Accepted : goal.returns-in-Accepted

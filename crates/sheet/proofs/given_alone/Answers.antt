@@ -1,6 +1,5 @@
 -- Case by case, what the check of the cable gives. Assumes nothing.
 use mathlib.Core.Path.{sym, ap, ◌∙◌}
-use borrow.Author.Rules.{rules}
 use Rattle.cable_rules.specs.Group.{as_given}
 use Rattle.sheet_rules.proofs.SheetChecks.{given_by_cable, refused_by_cable}
 use Rattle.sheet.proofs.given_alone.Goals as goal

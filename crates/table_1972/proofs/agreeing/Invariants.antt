@@ -1,12 +1,7 @@
 -- The loop counts one column at a time, which adds at most its 7 values.
-use mathlib.Core.Path.{◌≡◌, refl, ap, ap₂, ◌∙◌}
-use mathlib.Core.List.{List, []}
-use Prim.Native.Nat.{ℕ, ◌+◌, ◌*◌, ◌-◌, ◌≤◌}
-use native.Mathlib.Numerals.{add-one}
-use native.Mathlib.Omega.{arith}
-use borrow.Author.Rules.{rules}
-use lib.ListN.{get_or}
-use Rattle.table_1972.specs.Agreement.{agreeing_lines, agreeing_columns}
+use mathlib.Core.Path.{◌≡◌}
+use Prim.Native.Nat.{◌*◌, ◌-◌, ◌≤◌}
+use Rattle.table_1972.specs.Agreement.{agreeing_columns}
 use Rattle.table_1972.proofs.agreeing.Given as goal
 
 abbrev pub invariant-loop-column : goal.invariant-loop-column

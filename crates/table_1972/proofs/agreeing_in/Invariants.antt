@@ -1,12 +1,7 @@
 -- The loop counts one line at a time.
-use mathlib.Core.Path.{◌≡◌, refl, ap, ap₂, ◌∙◌}
-use mathlib.Core.Bool.{Bool}
-use mathlib.Core.List.{List}
-use Prim.Native.Nat.{ℕ, ◌+◌, ◌-◌, ◌≤◌}
-use native.Mathlib.Numerals.{add-one}
-use native.Mathlib.Omega.{arith}
-use lib.ListN.{get_or}
-use Rattle.table_1972.specs.Agreement.{agrees_at, one_if, agreeing_lines}
+use mathlib.Core.Path.{◌≡◌}
+use Prim.Native.Nat.{◌-◌, ◌≤◌}
+use Rattle.table_1972.specs.Agreement.{agreeing_lines}
 use Rattle.table_1972.proofs.agreeing_in.Given as goal
 
 abbrev pub invariant-loop-line : goal.invariant-loop-line

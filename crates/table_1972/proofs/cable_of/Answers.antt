@@ -1,7 +1,6 @@
 -- The test is that of the definition.
 use mathlib.Core.Path.{◌≡◌, ◌∙◌}
 use Prim.Native.Nat.{ℕ, ◌+◌, ◌*◌, ◌≤◌, ◌<◌}
-use borrow.Author.Rules.{rules}
 use borrow.Author.Tests.{lt-ltb, le-ltb}
 use Rattle.table_1972.specs.Agreement.{surface_cable, table_cable}
 use Rattle.table_1972.proofs.cable_of.Goals as goal

@@ -1,5 +1,4 @@
 -- The two tests are those of the definition.
-use borrow.Author.Rules.{rules}
 use borrow.Author.Tests.{le-leb, lt-leb}
 use Rattle.table_1972.proofs.near.Goals as goal
 

@@ -1,6 +1,5 @@
 -- The check's refusal is handed out, and a checked record is stepped to. Assumes nothing.
 use mathlib.Core.Path.{sym, ◌∙◌}
-use borrow.Author.Rules.{rules}
 use Rattle.history_rules.proofs.AtRecord.{read_refused, read_accepted, step_to}
 use Rattle.walk.proofs.step.Goals as goal
 

@@ -1,6 +1,5 @@
 -- The share of a checked record is not refused, and the sum leaves room for its part. Assumes nothing.
 use mathlib.Core.Path.{◌≡◌, sym, ap, ◌∙◌}
-use borrow.Author.Rules.{rules}
 use Rattle.share_rules.specs.Answer.{share_from}
 use Rattle.share_rules.specs.declared.ShareAnswer.TheVariants as S
 use Rattle.sheet_rules.specs.Sheet.{group_in}

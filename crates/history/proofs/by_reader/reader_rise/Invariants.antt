@@ -1,7 +1,5 @@
 -- As in the plain walk, and each record is read by the reader.
-use borrow.Author.Rules.{rules}
-use Rattle.history_rules.proofs.AtRecord.{ending, AtRecord, first_amperes, at_start, chain_ended, turn_refused, turn_next}
-use Rattle.history_rules.proofs.Said.{said}
+use Rattle.history_rules.proofs.AtRecord.{AtRecord}
 use Rattle.history.proofs.by_reader.reader_rise.Given as goal
 
 abbrev pub invariant-loop-last : goal.invariant-loop-last

@@ -1,6 +1,5 @@
 -- As in `rise`, and the header's own record is read by the reader.
 use mathlib.Core.Path.{◌≡◌, sym, ◌∙◌}
-use borrow.Author.Rules.{rules}
 use Rattle.sheet_rules.specs.Sheet.{checked_sheet}
 use Rattle.sheet_rules.specs.declared.HeaderCheck.TheVariants.{Accepted}
 use Rattle.history_rules.proofs.Walk.{sheet_refused, begins_read, header_not_missing}

@@ -1,6 +1,5 @@
 -- Each kind by its own call.
 use mathlib.Core.Path.{refl}
-use borrow.Author.Rules.{rules}
 use Rattle.reference_rows.proofs.answers.ask.Goals as goal
 
 pub returns-in-Share : goal.returns-in-Share

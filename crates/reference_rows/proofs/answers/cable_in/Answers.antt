@@ -1,6 +1,5 @@
 -- Each field by its name.
 use mathlib.Core.Path.{sym, ◌∙◌}
-use borrow.Author.Rules.{rules}
 use Rattle.reference_rows.proofs.answers.cable_in.Goals as goal
 
 pub returns : goal.returns

@@ -3,7 +3,6 @@ use mathlib.Core.Path.{refl, ap, sym, ◌∙◌}
 use Rattle.refusals.specs.Apart.{parts_of}
 use Rattle.cable_rules.specs.Group.{given_cable}
 use Rattle.emergency_rules.specs.Answer.{stated_current}
-use borrow.Author.Rules.{rules}
 use Rattle.reference_rows.proofs.answers.current.Goals as goal
 
 pub returns : goal.returns

@@ -4,7 +4,6 @@ use borrow.Author.Tests.{not-false}
 use Rattle.refusals.specs.Apart.{parts_of}
 use Rattle.cable_rules.specs.Group.{given_cable}
 use Rattle.cycle_rules.specs.Answer.{stated_factor}
-use borrow.Author.Rules.{rules}
 use Rattle.reference_rows.proofs.answers.factor.Goals as goal
 
 pub returns : goal.returns

@@ -6,7 +6,6 @@ use lib.ListN.{take}
 use Rattle.refusals.specs.Apart.{parts_of}
 use Rattle.sheet_rules.specs.Sheet.{given_sheet}
 use Rattle.cycle_rules.specs.Answer.{stated_factor}
-use borrow.Author.Rules.{rules}
 use Rattle.reference_rows.proofs.answers.factor_in_sheet.Goals as goal
 
 pub returns : goal.returns

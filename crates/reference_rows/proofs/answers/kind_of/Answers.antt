@@ -1,7 +1,6 @@
 -- The first name that is the word's.
 use mathlib.Core.Path.{◌≡◌, refl, sym, ◌∙◌}
 use mathlib.Core.Bool.{false}
-use borrow.Author.Rules.{rules}
 use Rattle.text.specs.Reading.{same_bytes}
 use Rattle.reference_rows.specs.Kinds.{share_kind, factor_kind, current_kind, share_in_sheet_kind, factor_in_sheet_kind, current_in_sheet_kind, skips, kind_of}
 use Rattle.reference_rows.proofs.answers.kind_of.Goals as goal

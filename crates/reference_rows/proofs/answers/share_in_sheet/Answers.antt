@@ -5,7 +5,6 @@ use lib.ListN.{take}
 use Rattle.refusals.specs.Apart.{parts_of}
 use Rattle.sheet_rules.specs.Sheet.{given_sheet}
 use Rattle.share_rules.specs.Answer.{stated_share}
-use borrow.Author.Rules.{rules}
 use Rattle.reference_rows.proofs.answers.share_in_sheet.Goals as goal
 
 pub returns : goal.returns

@@ -1,6 +1,5 @@
 -- The word is the first of the names, or not that one but a later one.
 use mathlib.Core.Path.{refl, sym, ◌∙◌}
-use borrow.Author.Rules.{rules}
 use Rattle.reference_rows.specs.Kinds.{skips}
 use Rattle.reference_rows.proofs.answers.skips.Goals as goal
 

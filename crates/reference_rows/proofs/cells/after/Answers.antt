@@ -1,6 +1,5 @@
 -- Past the end there is nothing, by either count.
 use native.Mathlib.Omega.{arith}
-use borrow.Author.Rules.{rules}
 use Rattle.reference_rows.proofs.Marks.{rest_from, rest_none}
 use Rattle.reference_rows.proofs.cells.after.Goals as goal
 

@@ -1,10 +1,5 @@
 -- The loop's invariant: the first such byte is not before `i`. The measure is what is left of the text.
-use mathlib.Core.Path.{◌≡◌}
-use Prim.Native.Nat.{◌+◌, ◌-◌, ◌≤◌}
 use native.Mathlib.Omega.{arith}
-use borrow.Author.Rules.{rules}
-use lib.ListN.{length, drop}
-use Rattle.reference_rows.specs.Cells.{index_of}
 use Rattle.reference_rows.proofs.Marks.{found, passed, ended}
 use Rattle.reference_rows.proofs.cells.find.Goals as goal
 

@@ -1,7 +1,6 @@
 -- The number of the value.
 use mathlib.Core.Path.{ap, ◌∙◌}
 use Rattle.text.specs.Reading.{signed_of}
-use borrow.Author.Rules.{rules}
 use Rattle.reference_rows.proofs.cells.integer.Goals as goal
 
 pub returns : goal.returns

@@ -1,7 +1,6 @@
 -- The number of the value.
 use mathlib.Core.Path.{ap, ◌∙◌}
 use Rattle.reference_rows.specs.Cells.{number_from}
-use borrow.Author.Rules.{rules}
 use Rattle.reference_rows.proofs.cells.number.Goals as goal
 
 pub returns : goal.returns

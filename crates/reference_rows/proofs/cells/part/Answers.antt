@@ -1,11 +1,8 @@
 -- The loop's invariant: the part is the one that is so many marks further on in the rest. The measure is how many marks are left.
-use mathlib.Core.Path.{◌≡◌, sym}
-use Prim.Native.Nat.{◌-◌, ◌≤◌}
+use mathlib.Core.Path.{sym}
 use native.Mathlib.Nat.{sub-zero}
 use native.Mathlib.Omega.{arith}
-use borrow.Author.Rules.{rules}
 use lib.Seq.{length-take-le}
-use Rattle.reference_rows.specs.Cells.{part_at}
 use Rattle.reference_rows.proofs.Marks.{next_part, last_part}
 use Rattle.reference_rows.proofs.cells.part.Goals as goal
 

@@ -1,11 +1,8 @@
 -- The loop's invariant: the value is that of the first part with the name from the k-th on. The measure is what is left of the cell.
-use mathlib.Core.Path.{◌≡◌, refl, sym, ◌∙◌}
-use Prim.Native.Nat.{◌-◌, ◌≤◌}
+use mathlib.Core.Path.{refl, sym, ◌∙◌}
 use native.Mathlib.Nat.{sub-zero}
 use native.Mathlib.Omega.{arith}
-use borrow.Author.Rules.{rules}
-use lib.ListN.{length}
-use Rattle.reference_rows.specs.Cells.{value_from, value_in}
+use Rattle.reference_rows.specs.Cells.{value_in}
 use Rattle.reference_rows.proofs.Marks.{named, unnamed, none_left}
 use Rattle.reference_rows.proofs.cells.value.Goals as goal
 

@@ -1,7 +1,6 @@
 -- Two digits beside each other.
 use Prim.Native.Nat.{◌+◌, ◌*◌}
 use lib.ListN.{get_or}
-use borrow.Author.Rules.{rules}
 use Rattle.reference_rows.specs.Inputs.{byte_at}
 use Rattle.reference_rows.proofs.Bytes.{byte_is}
 use Rattle.reference_rows.proofs.inputs.byte_at.Goals as goal

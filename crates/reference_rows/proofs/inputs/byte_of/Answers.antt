@@ -1,6 +1,5 @@
 -- The first digit decides, or the second.
 use native.Mathlib.Omega.{arith}
-use borrow.Author.Rules.{rules}
 use Rattle.reference_rows.proofs.Bytes.{no_high, no_low, both}
 use Rattle.reference_rows.proofs.inputs.byte_of.Goals as goal
 

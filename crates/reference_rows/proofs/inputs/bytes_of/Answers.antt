@@ -1,9 +1,6 @@
 -- The loop's invariant: the bytes so far are those of the digits. The measure is how many are left.
 use mathlib.Core.Path.{refl}
-use Prim.Native.Nat.{◌-◌, ◌≤◌}
 use native.Mathlib.Omega.{arith}
-use borrow.Author.Rules.{rules}
-use Rattle.reference_rows.specs.Inputs.{BytesTo}
 use Rattle.reference_rows.proofs.Bytes.{no_sheet, byte_more, whole_sheet}
 use Rattle.reference_rows.proofs.inputs.bytes_of.Goals as goal
 

@@ -1,5 +1,4 @@
 -- The hours are the value of that name.
-use borrow.Author.Rules.{rules}
 use Rattle.reference_rows.proofs.inputs.day_in.Goals as goal
 
 pub returns : goal.returns

@@ -1,11 +1,9 @@
 -- The loop's invariant: the hours so far are those of the list. The measure is what is left of the day.
 use mathlib.Core.Path.{◌≡◌, refl, ap, sym, ◌∙◌}
 use mathlib.Core.Bool.{true, false}
-use Prim.Native.Nat.{ℕ, ◌-◌, ◌≤◌}
+use Prim.Native.Nat.{ℕ}
 use native.Mathlib.Omega.{arith}
-use borrow.Author.Rules.{rules}
 use Rattle.reference_rows.specs.Cells.{number_from}
-use Rattle.reference_rows.specs.Inputs.{HoursTo}
 use Rattle.reference_rows.proofs.Bytes.{hour_more}
 use Rattle.reference_rows.proofs.inputs.day_of.Goals as goal
 

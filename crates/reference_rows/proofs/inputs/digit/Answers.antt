@@ -1,6 +1,5 @@
 -- The tests of the definition, one after the other.
 use native.Mathlib.Omega.{arith}
-use borrow.Author.Rules.{rules}
 use Rattle.reference_rows.proofs.Bytes.{below_0, to_9, below_a, to_f, above_f}
 use Rattle.reference_rows.proofs.inputs.digit.Goals as goal
 

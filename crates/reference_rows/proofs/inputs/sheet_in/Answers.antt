@@ -1,5 +1,4 @@
 -- The digits are the value of that name.
-use borrow.Author.Rules.{rules}
 use Rattle.reference_rows.proofs.inputs.sheet_in.Goals as goal
 
 pub returns : goal.returns

@@ -3,7 +3,6 @@ use mathlib.Core.Path.{◌≡◌, refl, sym, ◌∙◌}
 use mathlib.Core.Bool.{true}
 use mir.Syntax.{w64}
 use mir.Val.{SFits}
-use borrow.Author.Tests.{not-true, not-false}
 use Rattle.reference_rows.specs.Results.{is_share}
 use Rattle.reference_rows.proofs.Judging.{between_seen}
 use borrow.Author.Rules.{rules}

@@ -1,7 +1,6 @@
 -- The tests of the definition, one after the other, of numbers that fit.
 use mathlib.Core.Path.{◌≡◌}
 use mathlib.Core.Bool.{true}
-use borrow.Author.Tests.{not-true, not-false}
 use lib.IntN.{pos}
 use Rattle.reference_rows.specs.Results.{between}
 use mir.Syntax.{w64}

@@ -4,7 +4,6 @@ use mathlib.Core.Bool.{true}
 use mir.Syntax.{w64}
 use mir.Val.{SFits}
 use mir.Facts.{to_z-of_z}
-use borrow.Author.Tests.{not-true, not-false}
 use Rattle.reference_rows.specs.Results.{is_share}
 use borrow.Author.Rules.{rules}
 use Rattle.reference_rows.proofs.results.is_share_of.Goals as goal

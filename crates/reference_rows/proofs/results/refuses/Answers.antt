@@ -1,6 +1,5 @@
 -- The tests of the definition, one after the other.
 use Rattle.reference_rows.proofs.Judging.{has_values, other_number, by_place}
-use borrow.Author.Rules.{rules}
 use Rattle.reference_rows.proofs.results.refuses.Goals as goal
 
 pub returns-then-said-ne0 : goal.returns-then-said-ne0

@@ -1,6 +1,5 @@
 -- Each kind by its own rule.
 use mathlib.Core.Path.{refl}
-use borrow.Author.Rules.{rules}
 use Rattle.reference_rows.proofs.verdicts.by_results.Goals as goal
 
 pub returns-in-Share : goal.returns-in-Share

@@ -3,7 +3,6 @@ use mathlib.Core.Path.{sym}
 use lib.ListN.{length}
 use borrow.Author.Tests.{lt-ltb, le-ltb}
 use Rattle.reference_rows.specs.Verdicts.{verdict_of}
-use borrow.Author.Rules.{rules}
 use Rattle.reference_rows.proofs.verdicts.judge.Goals as goal
 
 pub returns-then-refused-gt0 : goal.returns-then-refused-gt0

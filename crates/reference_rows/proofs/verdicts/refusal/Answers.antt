@@ -2,7 +2,6 @@
 use mathlib.Core.Path.{refl, ap, sym, ◌∙◌}
 use Rattle.reference_rows.specs.Cells.{number_from}
 use Rattle.reference_rows.specs.Verdicts.{placed, by_refusal}
-use borrow.Author.Rules.{rules}
 use Rattle.reference_rows.proofs.verdicts.refusal.Goals as goal
 
 pub returns-in_default : goal.returns-in_default
