@@ -8,11 +8,11 @@ use Rattle.emergency_rules.specs.declared.CurrentAnswer.TheVariants as C
 use Rattle.answers.specs.Lines.{share_line, factor_line, current_line}
 
 -- "share 340185 340186"
-a-share :
+a_share :
     share_line (S.Pair (record { low = pos 340185; high = pos 340186 }))
     ≡ 115 ∷ 104 ∷ 97 ∷ 114 ∷ 101 ∷ 32 ∷ 51 ∷ 52 ∷ 48 ∷ 49 ∷ 56 ∷ 53 ∷ 32 ∷ 51 ∷ 52 ∷ 48 ∷ 49 ∷ 56 ∷ 54 ∷ 10 ∷ []
 unfolding answer_line decimal_text leading
-a-share = refl
+a_share = refl
 
 -- "factor 1125"
 a_factor : factor_line (F.Factor 1125) ≡ 102 ∷ 97 ∷ 99 ∷ 116 ∷ 111 ∷ 114 ∷ 32 ∷ 49 ∷ 49 ∷ 50 ∷ 53 ∷ 10 ∷ []

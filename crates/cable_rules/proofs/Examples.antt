@@ -22,16 +22,16 @@ cable d l s k w fast slow rated =
     }
 
 -- eight numbers, handed over in table order: k is the fourth, w the fifth
-in-table-order :
+in_table_order :
     (d l s k w fast slow rated : ℕ) →
     cable_from (d ∷ l ∷ s ∷ k ∷ w ∷ fast ∷ slow ∷ rated ∷ []) ≡ cable d l s k w fast slow rated
-in-table-order d l s k w fast slow rated = refl
+in_table_order d l s k w fast slow rated = refl
 
 -- and back
-fields-in-table-order :
+fields_in_table_order :
     (d l s k w fast slow rated : ℕ) →
     fields (cable d l s k w fast slow rated) ≡ d ∷ l ∷ s ∷ k ∷ w ∷ fast ∷ slow ∷ rated ∷ []
-fields-in-table-order d l s k w fast slow rated = refl
+fields_in_table_order d l s k w fast slow rated = refl
 
 abbrev refused_2 : ℕ → CableCheck
 refused_2 field = Refused (record { number = 2; place = Field field })

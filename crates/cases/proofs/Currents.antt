@@ -38,12 +38,12 @@ module _ (rated h r i : ℕ) (limit : h * h ≡ 100 * r) (below : i < most_curre
 -- ---- every minute count is answered from its share
 
 module _ (rated : ℕ) (given : given_cable (rated_a rated) ≡ accepted (alone (rated_a rated))) (minutes : ℕ) (from : 1 ≤ minutes) (to : minutes ≤ 2880) where
-  accepted_A : Accepted (numbers_in (alone (rated_a rated))) minutes
+  accepted_a : Accepted (numbers_in (alone (rated_a rated))) minutes
   unfolding in_use
-  accepted_A = record { cable = omega arith; neighbours = none; minutes_from = from; minutes_to = to }
+  accepted_a = record { cable = omega arith; neighbours = none; minutes_from = from; minutes_to = to }
 
   high_some : pos 1 ≤ℤ (share_pair (alone (rated_a rated)) minutes).high
-  high_some = high_above_zero _ minutes accepted_A _ (share_promised (alone (rated_a rated)) minutes accepted_A)
+  high_some = high_above_zero _ minutes accepted_a _ (share_promised (alone (rated_a rated)) minutes accepted_a)
 
   share_given : share_from (alone (rated_a rated)) minutes ≡ S.Pair (share_pair (alone (rated_a rated)) minutes)
   unfolding share_from

@@ -32,7 +32,7 @@ use Rattle.cycle_rules.proofs.ReferenceHour.{is_latest_largest, latest_one}
 use Rattle.cable_rules.proofs.Acceptance.{given_sound}
 use Rattle.cycle_rules.proofs.Said.{largest_sum_to}
 use Rattle.cases.specs.Table.{Meant, gives, any_hour, factor, values, one_hour, cable_a, cable_b}
-use Rattle.cases.proofs.Shares.{accepted_B, low_below_all, by_order, all_of_B}
+use Rattle.cases.proofs.Shares.{accepted_b, low_below_all, by_order, all_of_b}
 use Rattle.cases.proofs.Rises.{none_of}
 
 -- ---- the factor from the numbers of a day
@@ -179,7 +179,7 @@ module _ (pairs : ℕ → Bounds) (all : pos 1000000 ≤ℤ (pairs 1).high) (mos
 
 -- at order 4 the sum of e^360 has passed 10^8
 full_60 : pos 1000000 ≤ℤ (share_pair (alone cable_b) 60).high
-full_60 = all_of_B 60 (accepted_B 60 (omega arith) (omega arith)) (by_order (1 per 100000000) _ 4 tt)
+full_60 = all_of_b 60 (accepted_b 60 (omega arith) (omega arith)) (by_order (1 per 100000000) _ 4 tt)
 
 -- no hour is above 4,000 A, and the one hour is the highest load
 record AcceptedDay (hours : List ℕ) : Type 0 where
@@ -200,7 +200,7 @@ unfolding given_cable checked outside_field
 C4 hour from to =
     let pairs = hour_pair (alone cable_b) in
     let hours = one_hour hour 400 in
-    let a = accepted_B 360 (omega arith) (omega arith) in
+    let a = accepted_b 360 (omega arith) (omega arith) in
     let low = low_below_all _ 360 a _ (share_promised (alone cable_b) 360 a) in
     let day = accepted_day hour (omega arith) in
     rw (

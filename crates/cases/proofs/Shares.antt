@@ -94,9 +94,9 @@ module _ (c : CableNumbers) (m : ℕ) (a : Accepted c m) (b : Bounds) (p : Promi
 below : (a b : Frac) → T (leb (suc (a.num * b.den)) (b.num * a.den)) → a ≺ b
 below a b h = record { cross = leb→le _ _ h }
 
-pub accepted_B : (minutes : ℕ) → 1 ≤ minutes → minutes ≤ 2880 → Accepted (numbers_in (alone cable_b)) minutes
+pub accepted_b : (minutes : ℕ) → 1 ≤ minutes → minutes ≤ 2880 → Accepted (numbers_in (alone cable_b)) minutes
 unfolding in_use
-accepted_B minutes from to = record { cable = omega arith; neighbours = none; minutes_from = from; minutes_to = to }
+accepted_b minutes from to = record { cable = omega arith; neighbours = none; minutes_from = from; minutes_to = to }
 
 accepted_slow : Accepted (numbers_in (alone slow_b)) 1
 unfolding in_use
@@ -105,7 +105,7 @@ accepted_slow = record { cable = omega arith; neighbours = none; minutes_from = 
 pub C9 : Meant (around (Table.share (given_cable cable_b) 1) 997521 997522)
 unfolding in_use ◌∸◌ given_cable share_from checked outside_field
 C9 =
-    let a = accepted_B 1 (omega arith) (omega arith) in
+    let a = accepted_b 1 (omega arith) (omega arith) in
     let p = share_promised (alone cable_b) 1 a in
     record {
       low = (share_pair (alone cable_b) 1).low;
@@ -132,9 +132,9 @@ C10 =
 pub by_order : (e x : Frac) (n : ℕ) → T (1F ≼? e ⊗ exp_sum x n) → Above e x
 by_order e x n t = record { order = n; reaches = test_is 1F (e ⊗ exp_sum x n) t }
 
-pub all_of_B : (m : ℕ) (a : Accepted (numbers_in (alone cable_b)) m) → Above (1 per 100000000) (exponent 100000 m) → pos 1000000 ≤ℤ (share_pair (alone cable_b) m).high
+pub all_of_b : (m : ℕ) (a : Accepted (numbers_in (alone cable_b)) m) → Above (1 per 100000000) (exponent 100000 m) → pos 1000000 ≤ℤ (share_pair (alone cable_b) m).high
 unfolding in_use ◌∸◌
-all_of_B m a h =
+all_of_b m a h =
     let x = exponent 100000 m in
     high_past _ m a _ (share_promised (alone cable_b) m a) refl _ (1 per 100000000) (omega arith)
     (λ n t. (around_attainment (numbers_in (alone cable_b)) m (around_exp (below_zero x) h) (around_exp (below_zero x) h)).most n t) 999999 (below _ _ tt)

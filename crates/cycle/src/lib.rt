@@ -28,7 +28,7 @@ const HOUR: u32 = 60;
 
 // By how many thousandths a cable's rated current may be multiplied where the load goes through `hours` each day: the largest whole m, at most 5,000,
 // with m² times the heating sum at most 10^12, at the hour of the day at which that sum is largest. With T the largest of the 24 exact sums, in
-// millionths, typeof.m².T is at most 10^12; and if m is below 5,000, each larger whole number, squared and times T + 301, is above 10^12.
+// millionths, m²·T is at most 10^12; and if m is below 5,000, each larger whole number, squared and times T + 301, is above 10^12.
 pub fn factor(cable: Cable, hours: [u16; DAY_HOURS]) -> FactorAnswer
     ensures { FactorSaid (given_cable cable) hours result }
 {

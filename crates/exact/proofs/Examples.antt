@@ -138,23 +138,23 @@ no_order_zero = refl
 abbrev cable_a : CableNumbers
 cable_a = record { d = 500; l = 1000; s = 500; k = 600000; w = 500000; fast = 1000; slow = 100; neighbours = [] }
 
-near_A : near_end cable_a 60 ≈ 25 per 288
-near_A = same _ _ tt tt
+near_a : near_end cable_a 60 ≈ 25 per 288
+near_a = same _ _ tt tt
 
-far_A : far_end cable_a 60 ≈ 5000 per 9
-far_A = same _ _ tt tt
+far_a : far_end cable_a 60 ≈ 5000 per 9
+far_a = same _ _ tt tt
 
-ratio_A : ratio cable_a ≈ whole 6400
-ratio_A = same _ _ tt tt
+ratio_a : ratio cable_a ≈ whole 6400
+ratio_a = same _ _ tt tt
 
-fast_A : exponent 1000 60 ≈ 36 per 10
-fast_A = same _ _ tt tt
+fast_a : exponent 1000 60 ≈ 36 per 10
+fast_a = same _ _ tt tt
 
-slow_A : exponent 100 60 ≈ 36 per 100
-slow_A = same _ _ tt tt
+slow_a : exponent 100 60 ≈ 36 per 100
+slow_a = same _ _ tt tt
 
-fast_B : exponent 100000 1 ≈ whole 6
-fast_B = same _ _ tt tt
+fast_b : exponent 100000 1 ≈ whole 6
+fast_b = same _ _ tt tt
 
 -- ---- a small cable at order 1; its k and w are not those of 1 − k and 1 − w
 abbrev small : CableNumbers
@@ -193,12 +193,12 @@ unfolding min_s max_s ◌∸◌
 beta_trench = record { low_is = sameₛ _ _ tt tt; high_is = sameₛ _ _ tt tt }
 
 -- c²/(4tδ) and m²/(4tδ) of a neighbour 200 mm beside cable A, after 60 minutes
-near_beside_A : source_end 500 60 40000 ≈ 50 per 9
-near_beside_A = same _ _ tt tt
+near_beside_a : source_end 500 60 40000 ≈ 50 per 9
+near_beside_a = same _ _ tt tt
 
-image_beside_A : source_end 500 60 4040000 ≈ 5050 per 9
-image_beside_A = same _ _ tt tt
+image_beside_a : source_end 500 60 4040000 ≈ 5050 per 9
+image_beside_a = same _ _ tt tt
 
 -- c = d is not below d: cable A's d is 50 mm, and its neighbour lies 30 mm to the side and 40 mm deeper
-touching_A : InTrench cable_a (record { offset = pos 30; depth = 1040 })
-touching_A = record { offset_to = leb→le _ _ tt; depth_from = leb→le _ _ tt; depth_to = leb→le _ _ tt; apart = leb→le _ _ tt }
+touching_a : InTrench cable_a (record { offset = pos 30; depth = 1040 })
+touching_a = record { offset_to = leb→le _ _ tt; depth_from = leb→le _ _ tt; depth_to = leb→le _ _ tt; apart = leb→le _ _ tt }

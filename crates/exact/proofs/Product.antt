@@ -77,8 +77,8 @@ D a i = whole (suc i) ⊗ a (suc i)
 D-next : (a : ℕ → Frac) (i : ℕ) → D a (suc i) ≈ D (next a) i ⊕ a (suc (suc i))
 D-next a i = omega arith
 
-conv_D_next : (a b : ℕ → Frac) (k : ℕ) → conv (next (D a)) b k ≈ conv (D (next a)) b k ⊕ conv (next (next a)) b k
-conv_D_next a b k = trans≈ (conv_cong {a = next (D a)} {a' = λ i. D (next a) i ⊕ a (suc (suc i))} {b = b} {b' = b} (D-next a) (λ i. refl≈ (b i)) k) (conv_add (D (next a)) (next (next a)) b k)
+conv_d_next : (a b : ℕ → Frac) (k : ℕ) → conv (next (D a)) b k ≈ conv (D (next a)) b k ⊕ conv (next (next a)) b k
+conv_d_next a b k = trans≈ (conv_cong {a = next (D a)} {a' = λ i. D (next a) i ⊕ a (suc (suc i))} {b = b} {b' = b} (D-next a) (λ i. refl≈ (b i)) k) (conv_add (D (next a)) (next (next a)) b k)
 
 leibniz : (a b : ℕ → Frac) (k : ℕ) → whole (suc k) ⊗ conv a b (suc k) ≈ conv (D a) b k ⊕ conv a (D b) k
 leibniz a b zero = q_eq (a 0 ∷ a 1 ∷ b 0 ∷ b 1 ∷ []) (qn 1 *' (qv 0 *' qv 3 +' qv 1 *' qv 2)) (qn 1 *' qv 1 *' qv 2 +' qv 0 *' (qn 1 *' qv 3)) tt tt
@@ -88,19 +88,19 @@ leibniz a b (suc k) = q_eqfrom
     ∷ eq (qn 1) (qn 0) (qv 1 *' (qv 4 *' qv 5 +' qv 6)) (qv 8 +' qv 9)
     ∷ eq (qn 0) (qn 1) (qv 7) (qv 8 +' qv 6) ∷ [])
     (qv 0 *' (qv 2 *' qv 3 +' (qv 4 *' qv 5 +' qv 6))) (qn 1 *' qv 4 *' qv 5 +' qv 7 +' (qv 2 *' (qv 0 *' qv 3) +' qv 9)) tt tt
-    (whole_next (suc k)) (leibniz (next a) b k) (conv_D_next a b k)
+    (whole_next (suc k)) (leibniz (next a) b k) (conv_d_next a b k)
 
-term_D : (x : Frac) (i : ℕ) → D (term x) i ≈ x ⊗ term x i
-term_D x i = q_eqfrom (whole (suc i) ∷ term x i ∷ x ∷ (1 per (suc i)) ∷ []) (eq (qv 1 *' qv 2) (qn 0) (qv 3 *' qv 0) (qn 1) ∷ []) (qv 0 *' (qv 1 *' qv 2 *' qv 3)) (qv 2 *' qv 1) tt tt (per_times 1 (suc i) (zero-lt-suc i))
+term_d : (x : Frac) (i : ℕ) → D (term x) i ≈ x ⊗ term x i
+term_d x i = q_eqfrom (whole (suc i) ∷ term x i ∷ x ∷ (1 per (suc i)) ∷ []) (eq (qv 1 *' qv 2) (qn 0) (qv 3 *' qv 0) (qn 1) ∷ []) (qv 0 *' (qv 1 *' qv 2 *' qv 3)) (qv 2 *' qv 1) tt tt (per_times 1 (suc i) (zero-lt-suc i))
 
 by_one : (a : Frac) → a ≈ 1F ⊗ a
 by_one a = q_eq (a ∷ []) (qv 0) (qn 1 *' qv 0) tt tt
 
-left_D : (x y : Frac) (k : ℕ) → conv (D (term x)) (term y) k ≈ x ⊗ 1F ⊗ conv (term x) (term y) k
-left_D x y k = trans≈ (conv_cong {a = D (term x)} {a' = λ i. x ⊗ term x i} {b = term y} {b' = λ i. 1F ⊗ term y i} (term_D x) (λ i. by_one (term y i)) k) (conv_scale x 1F (term x) (term y) k)
+left_d : (x y : Frac) (k : ℕ) → conv (D (term x)) (term y) k ≈ x ⊗ 1F ⊗ conv (term x) (term y) k
+left_d x y k = trans≈ (conv_cong {a = D (term x)} {a' = λ i. x ⊗ term x i} {b = term y} {b' = λ i. 1F ⊗ term y i} (term_d x) (λ i. by_one (term y i)) k) (conv_scale x 1F (term x) (term y) k)
 
-right_D : (x y : Frac) (k : ℕ) → conv (term x) (D (term y)) k ≈ 1F ⊗ y ⊗ conv (term x) (term y) k
-right_D x y k = trans≈ (conv_cong {a = term x} {a' = λ i. 1F ⊗ term x i} {b = D (term y)} {b' = λ i. y ⊗ term y i} (λ i. by_one (term x i)) (term_D y) k) (conv_scale 1F y (term x) (term y) k)
+right_d : (x y : Frac) (k : ℕ) → conv (term x) (D (term y)) k ≈ 1F ⊗ y ⊗ conv (term x) (term y) k
+right_d x y k = trans≈ (conv_cong {a = term x} {a' = λ i. 1F ⊗ term x i} {b = D (term y)} {b' = λ i. y ⊗ term y i} (λ i. by_one (term x i)) (term_d y) k) (conv_scale 1F y (term x) (term y) k)
 
 -- the binomial theorem: (x + y)^k/k! is the sum of x^i/i! · y^j/j! over i + j = k
 pub binomial : (x y : Frac) (k : ℕ) → conv (term x) (term y) k ≈ term (x ⊕ y) k
@@ -113,7 +113,7 @@ binomial x y (suc k) = q_eqfrom
     ∷ eq (qv 1) (qn 0) (qv 8) (qn 1 *' qv 6 *' qv 3)
     ∷ eq (qv 1 *' (qv 5 +' qv 6)) (qn 0) (qv 3) (qv 4) ∷ [])
     (qv 2) (qv 4 *' (qv 5 +' qv 6) *' qv 1) tt tt
-    (per_times 1 (suc k) (zero-lt-suc k)) (leibniz (term x) (term y) k) (left_D x y k) (right_D x y k) (binomial x y k)
+    (per_times 1 (suc k) (zero-lt-suc k)) (leibniz (term x) (term y) k) (left_d x y k) (right_d x y k) (binomial x y k)
 
 exp_sum_upto : (x : Frac) (n : ℕ) → exp_sum x n ≈ upto (term x) n
 exp_sum_upto x zero = refl≈ 1F

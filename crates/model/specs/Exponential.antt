@@ -1,7 +1,7 @@
 -- e^(-x) in fixed point. Document 01, 'The attained share': the attainment's two exponentials, and e^(-u) under the integral J.
 use Rattle.std.specs.Prelude.{true, false, ℕ, zero, suc, ◌+◌, ◌*◌, ◌/◌, ◌%◌, ltb}
 use Rattle.bounds.specs.Pair.{Pair, scaled_p, quotient_p, at_most_p}
-use Rattle.model.specs.Scale.{one, exp_order, exp_loss, inverse_eLow, inverse_eHigh, far_from, exactly}
+use Rattle.model.specs.Scale.{one, exp_order, exp_loss, inverse_e_low, inverse_e_high, far_from, exactly}
 
 -- x^k/k!, rounded down at each step
 unfoldable pub exp_term : ℕ → ℕ → ℕ
@@ -19,7 +19,7 @@ fraction_exp_pair x = at_most_p (quotient_p (exactly one) (record { low = exp_su
 
 -- times e^(-1)
 abbrev pub decayed_once : Pair → Pair
-decayed_once b = scaled_p b (record { low = inverse_eLow; high = inverse_eHigh }) one
+decayed_once b = scaled_p b (record { low = inverse_e_low; high = inverse_e_high }) one
 
 -- times e^(-m)
 unfoldable pub decayed : ℕ → Pair → Pair

@@ -28,11 +28,11 @@ abbrev pub exp_loss : ℕ
 exp_loss = 49
 
 -- e^(-1) lies between these
-abbrev pub inverse_eLow : ℕ
-inverse_eLow = 395007542
+abbrev pub inverse_e_low : ℕ
+inverse_e_low = 395007542
 
-abbrev pub inverse_eHigh : ℕ
-inverse_eHigh = 395007543
+abbrev pub inverse_e_high : ℕ
+inverse_e_high = 395007543
 
 -- Beyond this argument, a plain number, e^(-u) is taken for anything from 0 to e^(-17), and the heating integral for one far slice.
 abbrev pub far_from : ℕ

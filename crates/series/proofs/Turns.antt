@@ -9,7 +9,7 @@ use Rattle.bounds.specs.Operations.{scaled_b, quotient_b, at_most_b}
 use Rattle.bounds.specs.Promises.{ScaledRoom, QuotientRoom}
 use Rattle.bounds.specs.declared.Bounds.{Bounds}
 use Rattle.bounds.proofs.Pairs.{scaled_pair, scaled_room, quotient_pair, quotient_room, at_most_pair}
-use Rattle.model.specs.Scale.{one, series_order, series_loss, term_loss, exp_order, exp_loss, inverse_eLow, inverse_eHigh, exactly}
+use Rattle.model.specs.Scale.{one, series_order, series_loss, term_loss, exp_order, exp_loss, inverse_e_low, inverse_e_high, exactly}
 use Rattle.model.specs.Exponential.{exp_term, exp_sum, fraction_exp_pair, decayed_once, decayed}
 use Rattle.model.specs.Series.{series_term, series_sum, series_pair}
 use Rattle.model.specs.Width.{Under}
@@ -101,7 +101,7 @@ decay_begin {start} m a =
 
 -- what each turn multiplies by
 abbrev pub inverse_e : Pair
-inverse_e = record { low = inverse_eLow; high = inverse_eHigh }
+inverse_e = record { low = inverse_e_low; high = inverse_e_high }
 
 decayed_once_small : {ends : Pair} → Under one ends → Under one (decayed_once ends)
 unfolding scaled_p

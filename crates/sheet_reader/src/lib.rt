@@ -1,5 +1,5 @@
-// A reader that refers to a sheet and holds a record number: made at the header, moved on to a record, and read. The borrow checker covers no
-// function over such a struct, so each is thin, and `record_at` does the work.
+// A reader that refers to a sheet and holds a record number: made at the header, moved on to a record, and read. Each function is thin, and
+// `record_at` does the work.
 #![tactic(auto)]
 
 ghost use Rattle.std.specs.Prelude.{◌≡◌};
@@ -38,7 +38,7 @@ pub fn read<'a>(reader: Reader<'a>) -> RecordRead
     record_at(reader.sheet, reader.number)
 }
 
-// A record by a reader that is moved on to it. Whoever calls this needs no proof by hand.
+// A record by a reader that is moved on to it.
 pub fn record_read(sheet: &[u8], number: usize) -> RecordRead
     ensures { RecordReadAs sheet.now number result }
 {

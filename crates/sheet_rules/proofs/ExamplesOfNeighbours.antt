@@ -167,9 +167,9 @@ unfolding checked_sheet header_length checked_header wrong_length checked outsid
 nothing_linked = refl
 
 -- the cable of the header in use, with the two of `either_side`
-group_A : group_of trench_a ≡ record { cable = cable_a; neighbours = neighbour (pos 200) 1000 ∷ neighbour (negsuc 199) 1000 ∷ [] }
+group_a : group_of trench_a ≡ record { cable = cable_a; neighbours = neighbour (pos 200) 1000 ∷ neighbour (negsuc 199) 1000 ∷ [] }
 unfolding header_length walk_from checked_neighbour record_at record_of wrong_length cable_of big_endian in_use
-group_A = refl
+group_a = refl
 
 -- a diffusivity of 0 stands for 500 here too
 group_of_default : group_of (fields_with 500 1000 0 100 ++ (two 300 ++ (two 0 ++ two 0))) ≡ record { cable = cable_a; neighbours = [] }

@@ -70,10 +70,10 @@ unfolding signed_of all_digits
 reads_a_sign_alone = refl
 
 -- "999999999999999999", of 18 digits
-reads-18-digits :
+reads_18_digits :
     signed_of (57 ∷ 57 ∷ 57 ∷ 57 ∷ 57 ∷ 57 ∷ 57 ∷ 57 ∷ 57 ∷ 57 ∷ 57 ∷ 57 ∷ 57 ∷ 57 ∷ 57 ∷ 57 ∷ 57 ∷ 57 ∷ []) ≡ Integer (pos 999999999999999999)
 unfolding signed_of all_digits followed_by
-reads-18-digits = refl
+reads_18_digits = refl
 
 -- "1000000000000000000", of 19 digits
 reads_19_digits : signed_of (49 ∷ 48 ∷ 48 ∷ 48 ∷ 48 ∷ 48 ∷ 48 ∷ 48 ∷ 48 ∷ 48 ∷ 48 ∷ 48 ∷ 48 ∷ 48 ∷ 48 ∷ 48 ∷ 48 ∷ 48 ∷ 48 ∷ []) ≡ NotInteger
@@ -95,11 +95,11 @@ unfolding decimal_text leading
 writes_10 = refl
 
 -- the greatest number of 64 bits, "18446744073709551615"
-writes-64-bits :
+writes_64_bits :
     decimal_text 18446744073709551615
     ≡ 49 ∷ 56 ∷ 52 ∷ 52 ∷ 54 ∷ 55 ∷ 52 ∷ 52 ∷ 48 ∷ 55 ∷ 51 ∷ 55 ∷ 48 ∷ 57 ∷ 53 ∷ 53 ∷ 49 ∷ 54 ∷ 49 ∷ 53 ∷ []
 unfolding decimal_text leading
-writes-64-bits = refl
+writes_64_bits = refl
 
 writes_minus_6400 : signed_text (negsuc 6399) ≡ 45 ∷ 54 ∷ 52 ∷ 48 ∷ 48 ∷ []
 unfolding decimal_text leading

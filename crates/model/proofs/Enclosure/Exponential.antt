@@ -14,7 +14,7 @@ use Rattle.bounds.specs.Pair.{Pair, scaled_p, quotient_p, at_most_p}
 use Rattle.exact.specs.Exponential.{term, exp_sum}
 use Rattle.exact.proofs.Exponential.{term≼, sum_over, one_exp_sum}
 use Rattle.exact.proofs.Certified.{Below, Above, below_mono, above_mono, below_product, above_product, below_zero, above_one}
-use Rattle.model.specs.Scale.{one, far_from, inverse_eLow, inverse_eHigh}
+use Rattle.model.specs.Scale.{one, far_from, inverse_e_low, inverse_e_high}
 use Rattle.model.specs.Exponential.{exp_term, fraction_exp_pair, decayed, exp_pair}
 use Rattle.model.specs.Exponential as model
 use Rattle.model.proofs.Exponential.{exp_room}
@@ -115,9 +115,9 @@ module _ (x : ℕ) (ξ : Frac) (f : Floor x ξ) (o : ξ ≼ 1F) where
       }
 
 -- ---- times e^(-m)
-inverse_e_in : ExpIn (record { low = inverse_eLow; high = inverse_eHigh }) 1F
+inverse_e_in : ExpIn (record { low = inverse_e_low; high = inverse_e_high }) 1F
 inverse_e_in = record {
-  below = record { under = λ m. trans≼ (mul≼ (refl≼ (unit inverse_eLow)) (sum_over m 14 (refl≼ 1F) (omega arith))) (record { cross = leb→le _ _ tt }) };
+  below = record { under = λ m. trans≼ (mul≼ (refl≼ (unit inverse_e_low)) (sum_over m 14 (refl≼ 1F) (omega arith))) (record { cross = leb→le _ _ tt }) };
   above = record { order = 14; reaches = record { cross = leb→le _ _ tt } };
 }
 
