@@ -1,6 +1,6 @@
 -- The loop's invariant: no more words are read than wanted, for which there is room, and nothing but 0 stands where none was read. The measure is
 -- what is left of them.
-use mathlib.Core.Path.{refl, ◌∙◌}
+use mathlib.Core.Path.{◌≡◌, refl, ◌∙◌}
 use mathlib.Core.List.{List}
 use Prim.Native.Nat.{ℕ, zero, suc, ◌+◌}
 use lib.ListN.{get_or, set, replicate}
