@@ -12,8 +12,11 @@ use std::rt::Env;
 use text::{Line, Number};
 use words::{Command, Fault};
 
+// More words than any command takes.
+const MOST_WORDS: usize = 64;
+
 fn main(rt: HostRuntime) {
-    let words = report::word_count(&rt);
+    let words = report::word_count(&rt, MOST_WORDS);
     if words < 2 {
         guide::help(&rt);
         return;

@@ -107,13 +107,15 @@ pub fn put(rt: &HostRuntime, text: &[u8], lost: &[u8]) {
     }
 }
 
-// How many words the program was started with, its own name among them.
-pub fn word_count(rt: &HostRuntime) -> usize {
+// How many words the program was started with, its own name among them, and `most` where they are more.
+pub fn word_count(rt: &HostRuntime, most: usize) -> usize
+    ensures { result ≤ most }
+{
     let mut first = [0u8; 1];
-    for k in 0..usize::MAX {
+    for k in 0..most {
         if let Err(FillError::NotPresent) = rt.arg(k, &mut first) {
             return k;
         }
     }
-    usize::MAX
+    most
 }

@@ -5,7 +5,7 @@ use report::{Outcome, Walk};
 use std::io::Print;
 
 fn main(rt: HostRuntime) {
-    if 1 < report::word_count(&rt) {
+    if 1 < report::word_count(&rt, 2) {
         let _ = rt
             .stderr()
             .write_all(b"usage: no words wanted: rise_by_reader < SHEET\n");

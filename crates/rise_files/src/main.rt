@@ -66,12 +66,7 @@ fn counted(rt: &HostRuntime, counts: Counts, k: usize) -> Counts
 fn word_count(rt: &HostRuntime) -> usize
     ensures { result ≤ most_words }
 {
-    let count = report::word_count(rt);
-    if count < MOST_WORDS {
-        count
-    } else {
-        MOST_WORDS
-    }
+    report::word_count(rt, MOST_WORDS)
 }
 
 fn word_at(rt: &HostRuntime, k: usize) -> Signed {
