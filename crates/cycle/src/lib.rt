@@ -18,7 +18,7 @@ pub use cycle_rules::FactorAnswer;
 use heating::HEATING_HOURS;
 use refusals::{Parts, Place, Refusal};
 use share::ShareAnswer;
-use sheet::{Trench, TrenchCheck};
+use sheet::Trench;
 
 // In A.
 const MOST_AMPERES: u16 = 4000;
@@ -43,13 +43,17 @@ pub fn factor_in_sheet(sheet: &[u8], hours: [u16; DAY_HOURS]) -> FactorAnswer
 }
 
 // The factor of what is given, or the refusal of what was handed in.
-fn factor_given(sheet: &[u8], given: TrenchCheck, hours: [u16; DAY_HOURS]) -> FactorAnswer
+fn factor_given(
+    sheet: &[u8],
+    given: Result<Trench, Refusal>,
+    hours: [u16; DAY_HOURS],
+) -> FactorAnswer
     requires { OnlyLaid sheet.now given }
     ensures { result ≡ factor_answer (as_given_in sheet.now given) hours }
 {
     match given {
-        TrenchCheck::Accepted(trench) => factor_of(sheet, trench, hours),
-        TrenchCheck::Refused(refusal) => FactorAnswer::Refused(refusal),
+        Ok(trench) => factor_of(sheet, trench, hours),
+        Err(refusal) => FactorAnswer::Refused(refusal),
     }
 }
 

@@ -10,8 +10,8 @@ ghost use Rattle.emergency_rules.specs.Answer.{stated_current, CurrentSaid};
 
 use cable::Cable;
 pub use emergency_rules::CurrentAnswer;
-use refusals::Parts;
-use sheet::TrenchCheck;
+use refusals::{Parts, Refusal};
+use sheet::Trench;
 
 // The current that a cable may carry for `minutes` after a preload of h percent of its rated current, its rise staying within r percent of the
 // rated one: the largest whole number of amperes up to 10,000 that the high share certifies.
@@ -33,12 +33,12 @@ pub fn current_in_sheet(sheet: &[u8], h: u32, r: u32, minutes: u32) -> CurrentAn
 }
 
 // The rated current of what is given; where that is refused there is none.
-fn rated_of(given: TrenchCheck) -> u32
+fn rated_of(given: Result<Trench, Refusal>) -> u32
     ensures { result ≡ rated_of given }
 {
     match given {
-        TrenchCheck::Accepted(trench) => trench.cable.rated,
-        TrenchCheck::Refused(_) => 0,
+        Ok(trench) => trench.cable.rated,
+        Err(_) => 0,
     }
 }
 

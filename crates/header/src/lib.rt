@@ -7,9 +7,9 @@ ghost use Rattle.sheet_rules.specs.Layout.{short_header, header_length, record_c
 ghost use Rattle.sheet_rules.specs.Header.{field_of, cable_of, starting_current, first_link, second_link};
 ghost use Rattle.sheet_rules.specs.Promises.{HeaderSaid};
 
-use cable::{Cable, CableCheck};
+use cable::Cable;
 use refusals::{Place, Refusal};
-use sheet_rules::{Header, HeaderCheck};
+use sheet_rules::Header;
 
 // In bytes.
 const SHORT_HEADER: usize = 36;
@@ -127,30 +127,26 @@ fn second_link(sheet: &[u8]) -> usize
 }
 
 // The header of a sheet of any length, or its first refusal.
-pub fn check_header(sheet: &[u8]) -> HeaderCheck
+pub fn check_header(sheet: &[u8]) -> Result<Header, Refusal>
     ensures { HeaderSaid sheet.now result }
 {
     if wrong_length(sheet.len()) {
-        return HeaderCheck::Refused(Refusal {
+        return Err(Refusal {
             number: 1,
             place: Place::None,
         });
     }
-    let checked = cable::check_cable(cable_of(sheet));
-    let cable = match checked {
-        CableCheck::Accepted(accepted) => accepted,
-        CableCheck::Refused(refusal) => return HeaderCheck::Refused(refusal),
-    };
+    let cable = cable::check_cable(cable_of(sheet))?;
     let start = starting_current(sheet);
     if MOST_START < start {
-        return HeaderCheck::Refused(Refusal {
+        return Err(Refusal {
             number: 4,
             place: Place::None,
         });
     }
     let link = first_link(sheet);
     let neighbours = second_link(sheet);
-    HeaderCheck::Accepted(Header {
+    Ok(Header {
         cable,
         start,
         link,

@@ -3,9 +3,8 @@ ghost use Rattle.history_rules.specs.Answer.{history_of, RiseSaid};
 ghost use Rattle.history_rules.specs.Walk.{Begins};
 
 use crate::RiseAnswer;
-use history_rules::Turn;
 use refusals::{Place, Refusal};
-use sheet::{HeaderCheck, LoadRecord, RecordRead, Trench, reader};
+use sheet::{LoadRecord, Trench, reader};
 
 // The same rise, its chain walked by a reader: the starting current and every link, minute and ampere come through it.
 pub fn rise_by_reader(sheet: &[u8]) -> RiseAnswer
@@ -13,12 +12,12 @@ pub fn rise_by_reader(sheet: &[u8]) -> RiseAnswer
 {
     let checked = sheet::check_sheet(sheet);
     match checked {
-        HeaderCheck::Refused(refusal) => RiseAnswer::Refused(refusal),
-        HeaderCheck::Accepted(header) => {
+        Err(refusal) => RiseAnswer::Refused(refusal),
+        Ok(header) => {
             let trench = sheet::trench_of(header);
             let read = reader::record_read(sheet, 0);
             // Never taken: record 0 of an accepted sheet is the one made of its header.
-            let RecordRead::Held(first) = read else {
+            let Some(first) = read else {
                 return RiseAnswer::Refused(Refusal {
                     number: 1,
                     place: Place::None,
@@ -42,8 +41,8 @@ fn reader_rise(sheet: &[u8], trench: Trench, first: LoadRecord) -> RiseAnswer
         }
         let turn = walk::step(sheet, trench, at, reader::record_read(sheet, last.next));
         match turn {
-            Turn::Refused(refusal) => break RiseAnswer::Refused(refusal),
-            Turn::Next(next) => at = next,
+            Err(refusal) => break RiseAnswer::Refused(refusal),
+            Ok(next) => at = next,
         }
     }
 }

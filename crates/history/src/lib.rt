@@ -9,9 +9,9 @@ ghost use Rattle.history_rules.specs.Walk.{Begins};
 mod by_reader;
 
 pub use by_reader::rise_by_reader;
-pub use history_rules::{Reached, RiseAnswer, Turn};
+pub use history_rules::{Reached, RiseAnswer};
 use refusals::Parts;
-use sheet::{HeaderCheck, LoadRecord, Trench};
+use sheet::{LoadRecord, Trench};
 
 // The rise now, from the bytes of a sheet of any length. The sheet is only read.
 pub fn rise(sheet: &[u8]) -> RiseAnswer
@@ -19,8 +19,8 @@ pub fn rise(sheet: &[u8]) -> RiseAnswer
 {
     let checked = sheet::check_sheet(sheet);
     match checked {
-        HeaderCheck::Refused(refusal) => RiseAnswer::Refused(refusal),
-        HeaderCheck::Accepted(header) => {
+        Err(refusal) => RiseAnswer::Refused(refusal),
+        Ok(header) => {
             let trench = sheet::trench_of(header);
             let first = sheet::before_first(header.start, header.link);
             chain_rise(sheet, trench, first)
@@ -41,8 +41,8 @@ fn chain_rise(sheet: &[u8], trench: Trench, first: LoadRecord) -> RiseAnswer
         }
         let turn = walk::step(sheet, trench, at, sheet::record_at(sheet, last.next));
         match turn {
-            Turn::Refused(refusal) => break RiseAnswer::Refused(refusal),
-            Turn::Next(next) => at = next,
+            Err(refusal) => break RiseAnswer::Refused(refusal),
+            Ok(next) => at = next,
         }
     }
 }

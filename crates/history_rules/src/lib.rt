@@ -19,10 +19,3 @@ pub struct Reached {
     pub last: LoadRecord,
     pub sum: Bounds,
 }
-
-// What a turn of the walk leads to.
-#[derive(Clone, Copy)]
-pub enum Turn {
-    Next(Reached),
-    Refused(Refusal),
-}

@@ -8,7 +8,8 @@ ghost use Rattle.sheet_rules.specs.Promises.{InGround, NeighbourSaid};
 
 use cable_rules::Cable;
 use records::refused_at;
-use sheet_rules::{LoadRecord, RecordCheck, RecordRead};
+use refusals::Refusal;
+use sheet_rules::LoadRecord;
 
 // In mm, to either side.
 const MOST_OFFSET: u32 = 3000;
@@ -64,12 +65,16 @@ pub fn image_of(depth: u32, neighbour: LoadRecord) -> u64
 }
 
 // What was read at the link of the record `before`, or its first refusal.
-pub fn check_neighbour(cable: Cable, before: LoadRecord, read: RecordRead) -> RecordCheck
+pub fn check_neighbour(
+    cable: Cable,
+    before: LoadRecord,
+    read: Option<LoadRecord>,
+) -> Result<LoadRecord, Refusal>
     requires { InGround cable }
     ensures { NeighbourSaid cable before read result }
 {
     let holder = before.number;
-    let RecordRead::Held(record) = read else {
+    let Some(record) = read else {
         return refused_at(14, holder);
     };
     if record.number <= holder {
@@ -84,7 +89,7 @@ pub fn check_neighbour(cable: Cable, before: LoadRecord, read: RecordRead) -> Re
     if TENTHS * near_of(cable.depth, record) < numbers::square(cable.diameter) {
         return refused_at(16, record.number);
     }
-    RecordCheck::Accepted(record)
+    Ok(record)
 }
 
 // The header as the record before the first neighbour: its number is 0, and it holds the second link.

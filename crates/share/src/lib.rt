@@ -10,7 +10,7 @@ ghost use Rattle.share_rules.specs.Answer.{share_from, share_answer, stated_shar
 use cable::Cable;
 use refusals::{Parts, Place, Refusal};
 pub use share_rules::ShareAnswer;
-use sheet::{Trench, TrenchCheck};
+use sheet::Trench;
 
 // Two days.
 const MOST_MINUTES: u32 = 2880;
@@ -30,13 +30,13 @@ pub fn share_in_sheet(sheet: &[u8], minutes: u32) -> ShareAnswer
 }
 
 // The share of what is given, or the refusal of what was handed in.
-pub fn share_given(sheet: &[u8], given: TrenchCheck, minutes: u32) -> ShareAnswer
+pub fn share_given(sheet: &[u8], given: Result<Trench, Refusal>, minutes: u32) -> ShareAnswer
     requires { OnlyLaid sheet.now given }
     ensures { result ≡ share_answer (as_given_in sheet.now given) minutes }
 {
     match given {
-        TrenchCheck::Accepted(trench) => share_of(sheet, trench, minutes),
-        TrenchCheck::Refused(refusal) => ShareAnswer::Refused(refusal),
+        Ok(trench) => share_of(sheet, trench, minutes),
+        Err(refusal) => ShareAnswer::Refused(refusal),
     }
 }
 
