@@ -1,8 +1,10 @@
 // The rise of a cable after a load history: document 01, 'The load sheet'; document 02, note 2.
 #![tactic(auto)]
 
-ghost use Rattle.std.specs.Prelude.{◌≡◌};
+ghost use Rattle.std.specs.Prelude.{◌≡◌, ℕ, Option};
 ghost use Rattle.refusals.specs.Apart.{parts_of};
+ghost use Rattle.sheet_rules.specs.Promises.{RecordReadAs};
+ghost use Rattle.sheet_rules.specs.declared.LoadRecord.{LoadRecord};
 ghost use Rattle.history_rules.specs.Answer.{stated_rise, history_of, RiseSaid};
 ghost use Rattle.history_rules.specs.Walk.{Begins};
 
@@ -23,14 +25,26 @@ pub fn rise(sheet: &[u8]) -> RiseAnswer
         Ok(header) => {
             let trench = sheet::trench_of(header);
             let first = sheet::before_first(header.start, header.link);
-            chain_rise(sheet, trench, first)
+            walked(
+                sheet,
+                trench,
+                first,
+                |number| sheet::record_at(sheet, number),
+            )
         }
     }
 }
 
-// The walk along the chain of records, from the header's own on. Minutes fall from record to record.
-fn chain_rise(sheet: &[u8], trench: Trench, first: LoadRecord) -> RiseAnswer
-    requires { Begins sheet.now trench first }
+// The walk along the chain of records, from the header's own on, each read by its number. Minutes fall from record to record.
+fn walked<F: Fn(usize) -> Option<LoadRecord>>(
+    sheet: &[u8],
+    trench: Trench,
+    first: LoadRecord,
+    read: F,
+) -> RiseAnswer
+    requires begins { Begins sheet.now trench first }
+    requires callable { F.IsAlwaysCallable read }
+    requires reads { (number : ℕ) (r : Option LoadRecord) → F.post read number r → RecordReadAs sheet.now number r }
     ensures { RiseSaid (history_of sheet.now) result }
 {
     let mut at = heat::begin(first);
@@ -39,7 +53,7 @@ fn chain_rise(sheet: &[u8], trench: Trench, first: LoadRecord) -> RiseAnswer
         if last.next == 0 {
             break RiseAnswer::Rise(heat::end(trench.cable, at));
         }
-        let turn = walk::step(sheet, trench, at, sheet::record_at(sheet, last.next));
+        let turn = walk::step(sheet, trench, at, read(last.next));
         match turn {
             Err(refusal) => break RiseAnswer::Refused(refusal),
             Ok(next) => at = next,
