@@ -29,19 +29,10 @@ pub fn number_at(sheet: &[u8], at: usize, width: usize) -> u32
     ensures { result ≡ big_endian sheet.now at width }
 {
     let mut number: u32 = 0;
-    let mut i: usize = 0;
-    while i < width {
-        number = number * 256 + of_byte(sheet[at + i]);
-        i += 1;
+    for byte in &sheet[at..at + width] {
+        number = number * 256 + u32::from(*byte);
     }
     number
-}
-
-// In a call of its own, so that its range is known.
-fn of_byte(byte: u8) -> u32
-    ensures { result ≡ byte }
-{
-    byte as u32
 }
 
 // How long the header of a sheet of `size` bytes is: a second link stands in a long one.
