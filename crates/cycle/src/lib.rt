@@ -83,8 +83,8 @@ pub fn parts(answer: FactorAnswer) -> Parts
     ensures { result ≡ parts_of (stated_factor answer) }
 {
     match answer {
-        FactorAnswer::Factor(m) => refusals::of_value(m),
-        FactorAnswer::Refused(refusal) => refusals::of_refusal(refusal),
+        FactorAnswer::Factor(m) => Parts::from(m),
+        FactorAnswer::Refused(refusal) => Parts::from(refusal),
     }
 }
 
@@ -98,7 +98,7 @@ fn factor_of_day(sheet: &[u8], trench: Trench, hours: [u16; DAY_HOURS]) -> Facto
     for i in 0..HEATING_HOURS {
         let answer = share::share_of(sheet, trench, HOUR * (i as u32 + 1));
         let ShareAnswer::Pair(pair) = answer else {
-            return FactorAnswer::Refused(refusals::refusal_in(share::parts(answer)));
+            return FactorAnswer::Refused(Refusal::from(share::parts(answer)));
         };
         shares[i] = pair;
     }

@@ -47,7 +47,7 @@ pub fn parts(answer: CurrentAnswer) -> Parts
     ensures { result ≡ parts_of (stated_current answer) }
 {
     match answer {
-        CurrentAnswer::Current(amperes) => refusals::of_value(amperes),
-        CurrentAnswer::Refused(refusal) => refusals::of_refusal(refusal),
+        CurrentAnswer::Current(amperes) => Parts::from(amperes),
+        CurrentAnswer::Refused(refusal) => Parts::from(refusal),
     }
 }

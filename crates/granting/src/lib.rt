@@ -22,7 +22,7 @@ pub fn after_share(answer: ShareAnswer, rated: u32, h: u32, r: u32) -> CurrentAn
     ensures { result ≡ after_share rated h r answer }
 {
     let ShareAnswer::Pair(pair) = answer else {
-        return CurrentAnswer::Refused(refusals::refusal_in(share::parts(answer)));
+        return CurrentAnswer::Refused(Refusal::from(share::parts(answer)));
     };
     if ranges::outside(h, 0, MOST_PERCENT) {
         return CurrentAnswer::Refused(Refusal {

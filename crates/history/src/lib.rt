@@ -66,7 +66,7 @@ pub fn parts(answer: RiseAnswer) -> Parts
     ensures { result ≡ parts_of (stated_rise answer) }
 {
     match answer {
-        RiseAnswer::Rise(pair) => refusals::of_pair(pair),
-        RiseAnswer::Refused(refusal) => refusals::of_refusal(refusal),
+        RiseAnswer::Rise(pair) => Parts::from(pair),
+        RiseAnswer::Refused(refusal) => Parts::from(refusal),
     }
 }

@@ -59,7 +59,7 @@ pub fn parts(answer: ShareAnswer) -> Parts
     ensures { result ≡ parts_of (stated_share answer) }
 {
     match answer {
-        ShareAnswer::Pair(pair) => refusals::of_pair(pair),
-        ShareAnswer::Refused(refusal) => refusals::of_refusal(refusal),
+        ShareAnswer::Pair(pair) => Parts::from(pair),
+        ShareAnswer::Refused(refusal) => Parts::from(refusal),
     }
 }

@@ -37,7 +37,7 @@ fn step_to(
 {
     let answer = share::share_of(sheet, trench, next.minutes);
     let ShareAnswer::Pair(pair) = answer else {
-        return Err(refusals::refusal_in(share::parts(answer)));
+        return Err(Refusal::from(share::parts(answer)));
     };
     let last = at.last;
     let sum = at.sum;
