@@ -10,7 +10,7 @@ ghost use Rattle.bounds.specs.Promises.{Sized, largest, ScaledRoom, QuotientRoom
 ghost use Rattle.bounds.specs.Promises.{Point, Sum, Negation, Product, ScaledProduct, Quotient, Multiple, Divided, Cut, Floor, Ceiling};
 
 // A lower and an upper bound of a number, in whole units.
-#[derive(Clone, Copy)]
+#[derive(Clone, Copy, PartialEq, Eq)]
 pub struct Bounds {
     pub low: i64,
     pub high: i64,
