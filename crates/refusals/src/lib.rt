@@ -8,7 +8,7 @@ ghost use Rattle.refusals.specs.Apart.{parts_of, place_of, refusal_in};
 use bounds::Bounds;
 
 // A field, a record, an hour or an input, by its number, or none.
-#[derive(Clone, Copy)]
+#[derive(Clone, Copy, PartialEq, Eq)]
 pub enum Place {
     None,
     Field(u8),
@@ -17,7 +17,7 @@ pub enum Place {
     Input(u8),
 }
 
-#[derive(Clone, Copy)]
+#[derive(Clone, Copy, PartialEq, Eq)]
 pub struct Refusal {
     pub number: u8,
     pub place: Place,
@@ -50,7 +50,7 @@ fn kind_number(place: Place) -> u8
 }
 
 // What an answer states: the refusal's number, 0 for none, the kind and the number of its place, how many values there are, and the values.
-#[derive(Clone, Copy)]
+#[derive(Clone, Copy, PartialEq, Eq)]
 pub struct Parts {
     pub number: u8,
     pub kind: u8,
