@@ -12,13 +12,14 @@ pub fn square(x: u32) -> u64
     u64::from(x).pow(2)
 }
 
+// Stays beside the library's `min`, since its contract has an edit of its own, `greater_for_lesser`.
 pub fn least(a: u64, b: u64) -> u64
     ensures { result ≡ min a b }
 {
     a.min(b)
 }
 
-// A number of 32 bits among the signed ones of 64.
+// A number of 32 bits among the signed ones of 64. Stays beside `i64::from`, since its contract has an edit of its own, `wide_below_0`.
 pub fn wide(n: u32) -> i64
     ensures { result ≡ pos n }
 {
