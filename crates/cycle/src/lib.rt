@@ -78,7 +78,7 @@ pub fn factor_of(sheet: &[u8], trench: Trench, hours: [u16; DAY_HOURS]) -> Facto
     factor_of_day(sheet, trench, hours)
 }
 
-// What an answer states.
+// What an answer states. No From, which would have to stand beside the answer's type, in a crate that has definitions alone.
 pub fn parts(answer: FactorAnswer) -> Parts
     ensures { result ≡ parts_of (stated_factor answer) }
 {

@@ -42,7 +42,7 @@ fn rated_of(given: Result<Trench, Refusal>) -> u32
     }
 }
 
-// What an answer states.
+// What an answer states. No From, which would have to stand beside the answer's type, in a crate that has definitions alone.
 pub fn parts(answer: CurrentAnswer) -> Parts
     ensures { result ≡ parts_of (stated_current answer) }
 {

@@ -61,7 +61,7 @@ fn walked<F: Fn(usize) -> Option<LoadRecord>>(
     }
 }
 
-// What an answer states.
+// What an answer states. No From, which would have to stand beside the answer's type, in a crate that has definitions alone.
 pub fn parts(answer: RiseAnswer) -> Parts
     ensures { result ≡ parts_of (stated_rise answer) }
 {

@@ -1,5 +1,5 @@
 // The calculations for C and Rust, on numbers and bytes. Each writes its answer as five numbers into a lent array: the refusal's number, 0 for none,
-// the kind and the number of its place, and the values.
+// the kind and the number of its place, and the values. One function for each call, of a cable and of a sheet: these are the names of the C interface.
 #![tactic(auto)]
 
 ghost use Rattle.std.specs.Prelude.{◌≡◌};

@@ -55,7 +55,8 @@ pub fn image_of(depth: u32, neighbour: LoadRecord) -> u64
     numbers::square(aside(neighbour.minutes)) + numbers::square(depth + neighbour.amperes)
 }
 
-// What was read at the link of the record `before`, or its first refusal.
+// What was read at the link of the record `before`, or its first refusal. `InGround` is asked here and in the two functions of `sheet` that only hand the cable
+// on: a type for it would be made at one place and taken off again here.
 pub fn check_neighbour(
     cable: Cable,
     before: LoadRecord,

@@ -7,7 +7,7 @@ ghost use Rattle.refusals.specs.Apart.{parts_of, place_of, refusal_in};
 
 use bounds::Bounds;
 
-// A field, a record, an hour or an input, by its number, or none.
+// A field, a record, an hour or an input, by its number, or none. None is a case here and no Option is made of it: document 01, 'Language form for each place'.
 #[derive(Clone, Copy, PartialEq, Eq)]
 pub enum Place {
     None,
@@ -17,6 +17,7 @@ pub enum Place {
     Input(u8),
 }
 
+// By the papers' number, which is printed, explained and handed to C: an enum of the numbers would be turned back into them at each of these.
 #[derive(Clone, Copy, PartialEq, Eq)]
 pub struct Refusal {
     pub number: u8,
@@ -49,7 +50,8 @@ fn kind_number(place: Place) -> u8
     }
 }
 
-// What an answer states: the refusal's number, 0 for none, the kind and the number of its place, how many values there are, and the values.
+// What an answer states: the refusal's number, 0 for none, the kind and the number of its place, how many values there are, and the values. Plain numbers,
+// since the C interface takes them.
 #[derive(Clone, Copy, PartialEq, Eq)]
 pub struct Parts {
     pub number: u8,

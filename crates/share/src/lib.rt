@@ -54,7 +54,7 @@ pub fn share_of(sheet: &[u8], trench: Trench, minutes: u32) -> ShareAnswer
     ShareAnswer::Pair(pair::pair_of(sheet, trench, minutes))
 }
 
-// What an answer states.
+// What an answer states. No From, which would have to stand beside the answer's type, in a crate that has definitions alone.
 pub fn parts(answer: ShareAnswer) -> Parts
     ensures { result ≡ parts_of (stated_share answer) }
 {

@@ -30,7 +30,8 @@ pub struct Trench {
     pub neighbours: usize,
 }
 
-// Which chain a walk is along.
+// Which chain a walk is along. The definitions and the laws of either chain are said once over it; a trait with the check, the measure and its law as ghost
+// members, and two impls, would be longer than the one match.
 #[derive(Clone, Copy)]
 pub enum Links {
     Load,
