@@ -16,7 +16,8 @@ use share::ShareAnswer;
 // In percent: of a preload, of the rated current; of a limit, of the rated rise.
 const MOST_PERCENT: u32 = 200;
 
-// Rated current, preload and limit stay three numbers, as the calls take them. The current from what the share answers: its refusal, that of what was handed in or 9; 12 or 13; or the amperes.
+// The current from what the share answers: its refusal, that of what was handed in or 9; 12 or 13; or the amperes. Rated current, preload and limit stay three
+// numbers, as the calls take them.
 pub fn after_share(answer: ShareAnswer, rated: u32, h: u32, r: u32) -> CurrentAnswer
     requires { Rated rated answer }
     ensures { result ≡ after_share rated h r answer }
