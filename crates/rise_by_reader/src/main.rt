@@ -1,7 +1,6 @@
 // Reads a sheet from standard input and prints its rise as `rise` does, with the chain walked by the reader. What is no answer goes to standard error.
 #![tactic(auto)]
 
-use report::{Outcome, Walk};
 use std::io::Print;
 
 fn main(rt: HostRuntime) {
@@ -11,16 +10,12 @@ fn main(rt: HostRuntime) {
             .write_all(b"usage: no words wanted: rise_by_reader < SHEET\n");
         return;
     }
-    match report::rise_from(&mut rt.stdin(), Walk::ByReader) {
-        Outcome::Answer(answer) => report::print_rise(
+    match report::rise_from(&mut rt.stdin(), history::rise_by_reader) {
+        Ok(answer) => report::print_rise(
             &rt,
             answer,
             b"rise_by_reader: the answer cannot be written",
         ),
-        Outcome::Unread(error) => report::fail(
-            &rt,
-            b"rise_by_reader: standard input cannot be read",
-            error,
-        ),
+        Err(error) => report::fail(&rt, b"rise_by_reader: standard input cannot be read", error),
     }
 }
