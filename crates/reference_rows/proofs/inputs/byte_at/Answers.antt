@@ -1,10 +1,16 @@
--- Two digits beside each other.
-use Prim.Native.Nat.{◌+◌, ◌*◌}
-use lib.ListN.{get_or}
+-- Both digits, or that one is none.
+use Rattle.std.proofs.Common.{◌∙◌, sym, refl}
 use Rattle.reference_rows.specs.Inputs.{byte_at}
-use Rattle.reference_rows.proofs.Bytes.{byte_is}
 use Rattle.reference_rows.proofs.inputs.byte_at.Goals as goal
+
+pub returns-in_err-high : goal.returns-in_err-high
+unfolding byte_at
+returns-in_err-high c = rw (sym c.digit.ensures.value ∙ c.in_err-high.was) c.from_residual.ensures
+
+pub returns-in_err-low : goal.returns-in_err-low
+unfolding byte_at
+returns-in_err-low c = rw (sym c.digit.ensures.value ∙ c.in_ok-high.was, sym c.digit-2.ensures.value ∙ c.in_err-low.was) c.from_residual-in_err-low.ensures
 
 pub returns : goal.returns
 unfolding byte_at
-returns c = let a = c.args in byte_is _ _ (get_or a.hex.now (2 * a.k) 0) (get_or a.hex.now (2 * a.k + 1) 0) c.digit.ensures c.digit-2.ensures c.byte_of.ensures
+returns c = rw (sym c.digit.ensures.value ∙ c.in_ok-high.was, sym c.digit-2.ensures.value ∙ c.in_ok-low.was) refl

@@ -1,10 +1,7 @@
--- The loop's invariant: the bytes so far are those of the digits. The measure is how many are left.
-use Prim.Native.Nat.{◌-◌, ◌≤◌}
-use Rattle.reference_rows.specs.Inputs.{BytesTo}
+-- The loop's invariant: there are as many bytes as pairs of digits so far, and they are those of the digits.
+use Rattle.std.proofs.Common.{◌≡◌, length}
+use Rattle.reference_rows.specs.Inputs.{BytesOf}
 use Rattle.reference_rows.proofs.inputs.bytes_of.Given as goal
 
 abbrev pub invariant-loop-k : goal.invariant-loop-k
-invariant-loop-k l = (l.k ≤ l.count) × BytesTo l.k l.hex l.bytes
-
-abbrev pub decreases-loop-k : goal.decreases-loop-k
-decreases-loop-k l = l.count - l.k
+invariant-loop-k l = record { many : length l.bytes.items ≡ l.k; so_far : BytesOf l.hex l.bytes.items }
