@@ -7,7 +7,7 @@ use crate::{cells, inputs};
 use cable_rules::Cable;
 use refusals::Parts;
 
-#[derive(Clone, Copy, PartialEq, Eq)]
+#[derive(Clone, Copy)]
 pub enum Kind {
     Share,
     Factor,
@@ -45,8 +45,8 @@ pub fn skips(word: &[u8]) -> bool
     word == b"kind".as_slice() || word == b"rise".as_slice() || word == b"program".as_slice()
 }
 
-// Nothing where the inputs cannot be read. A cable and a sheet have their own three functions below: one trait over both would need four methods
-// in each of two impls for the three lines that differ in a name.
+// Nothing where the inputs cannot be read. Each of the six public calls has its few lines below, since the rows are there to run them all: a trait over
+// a cable and a sheet would take four methods in each of two impls to spare three of the six.
 pub fn ask(kind: Kind, inputs: &[u8]) -> Option<Parts>
     ensures { AnswerTo kind inputs.now result }
 {

@@ -26,7 +26,7 @@ const TABLES: [&str; 5] = [
     "unreadable.tsv",
 ];
 
-#[derive(Clone, Copy)]
+#[derive(Clone, Copy, Default)]
 struct Counts {
     inside: u64,
     outside: u64,
@@ -34,11 +34,7 @@ struct Counts {
 }
 
 fn main(rt: HostRuntime) {
-    let mut counts = Counts {
-        inside: 0,
-        outside: 0,
-        unreadable: 0,
-    };
+    let mut counts = Counts::default();
     for name in TABLES {
         counts = table(&rt, name, counts);
     }
