@@ -1,7 +1,7 @@
 // What a row asks: a day's hours, or a sheet in hexadecimal.
-ghost use Rattle.std.specs.Prelude.{◌≡◌, ◌+◌, ◌*◌, ◌<◌, length, IfSome};
+ghost use Rattle.std.specs.Prelude.{◌≡◌, ◌<◌, IfSome};
 ghost use Rattle.reference_rows.specs.Cells.{value_in};
-ghost use Rattle.reference_rows.specs.Inputs.{base, digit_of, byte_at, sheet_name, SheetOf, hours_name, DayOf};
+ghost use Rattle.reference_rows.specs.Inputs.{base, digit_of, sheet_name, SheetOf, hours_name, DayOf};
 
 use crate::cells;
 use arrayvec::ArrayVec;
@@ -47,20 +47,12 @@ fn bytes_of(hex: &[u8]) -> Option<ArrayVec<u8, SHEET_ROOM>>
         return None;
     }
     let mut bytes = ArrayVec::new();
-    for k in 0..hex.len() / 2 {
-        let byte = byte_at(hex, k)?;
-        bytes.try_push(byte).ok()?;
+    for pair in hex.chunks_exact(2) {
+        let high = digit(pair[0])?;
+        let low = digit(pair[1])?;
+        bytes.try_push(16 * high + low).ok()?;
     }
     Some(bytes)
-}
-
-fn byte_at(hex: &[u8], k: usize) -> Option<u8>
-    requires { 2 * k + 1 < length hex.now }
-    ensures { result ≡ byte_at hex.now k }
-{
-    let high = digit(hex[2 * k])?;
-    let low = digit(hex[2 * k + 1])?;
-    Some(16 * high + low)
 }
 
 // The library's `char::to_digit` takes capitals too, which no row has.
