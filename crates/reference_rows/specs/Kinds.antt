@@ -1,5 +1,5 @@
 -- What a row asks, by the word in its first column.
-use Rattle.std.specs.Prelude.{Bool, ◌||◌, cond, List, [], ◌∷◌, ℕ, bytes_eq, Option, Some, None}
+use Rattle.std.specs.Prelude.{Bool, ◌||◌, List, [], ◌∷◌, ℕ, bytes_eq, find, Option, option_map}
 use Rattle.reference_rows.specs.declared.answers.Kind.{Kind}
 use Rattle.reference_rows.specs.declared.answers.Kind.TheVariants.{Share, Factor, Current, ShareInSheet, FactorInSheet, CurrentInSheet}
 
@@ -29,12 +29,16 @@ skips word =
     || bytes_eq word (114 ∷ 105 ∷ 115 ∷ 101 ∷ [])
     || bytes_eq word (112 ∷ 114 ∷ 111 ∷ 103 ∷ 114 ∷ 97 ∷ 109 ∷ [])
 
-abbrev pub kind_of : List ℕ → Option Kind
-kind_of word =
-    cond (bytes_eq word share_kind) (Some Share)
-    (cond (bytes_eq word factor_kind) (Some Factor)
-    (cond (bytes_eq word current_kind) (Some Current)
-    (cond (bytes_eq word share_in_sheet_kind) (Some ShareInSheet)
-    (cond (bytes_eq word factor_in_sheet_kind) (Some FactorInSheet)
-    (cond (bytes_eq word current_in_sheet_kind) (Some CurrentInSheet)
-    None)))))
+abbrev pub kinds : List (List ℕ × Kind)
+kinds =
+    (share_kind, Share)
+    ∷ (factor_kind, Factor)
+    ∷ (current_kind, Current)
+    ∷ (share_in_sheet_kind, ShareInSheet)
+    ∷ (factor_in_sheet_kind, FactorInSheet)
+    ∷ (current_in_sheet_kind, CurrentInSheet)
+    ∷ []
+
+-- The kind of the first of these words that is the same.
+unfoldable pub kind_of : List ℕ → Option Kind
+kind_of word = option_map (λ k. k.1) (find (λ k. bytes_eq k.0 word) kinds)

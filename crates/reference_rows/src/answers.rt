@@ -17,25 +17,21 @@ pub enum Kind {
     CurrentInSheet,
 }
 
-// A `match` on the six words compares byte by byte, which takes a proof for each of some seventy ends.
+// The word of each kind.
+const KINDS: [(&[u8], Kind); 6] = [
+    (b"share", Kind::Share),
+    (b"factor", Kind::Factor),
+    (b"current", Kind::Current),
+    (b"share_in_sheet", Kind::ShareInSheet),
+    (b"factor_in_sheet", Kind::FactorInSheet),
+    (b"current_in_sheet", Kind::CurrentInSheet),
+];
+
 pub fn kind_of(word: &[u8]) -> Option<Kind>
     ensures { result ≡ kind_of word.now }
 {
-    if word == b"share".as_slice() {
-        Some(Kind::Share)
-    } else if word == b"factor".as_slice() {
-        Some(Kind::Factor)
-    } else if word == b"current".as_slice() {
-        Some(Kind::Current)
-    } else if word == b"share_in_sheet".as_slice() {
-        Some(Kind::ShareInSheet)
-    } else if word == b"factor_in_sheet".as_slice() {
-        Some(Kind::FactorInSheet)
-    } else if word == b"current_in_sheet".as_slice() {
-        Some(Kind::CurrentInSheet)
-    } else {
-        None
-    }
+    let found = KINDS.iter().find(|row| row.0 == word)?;
+    Some(found.1)
 }
 
 // Whether a row is none of this program's: the line of the columns' names, and what `rise_files` runs.
