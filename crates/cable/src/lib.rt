@@ -5,7 +5,7 @@ ghost use Rattle.std.specs.Prelude.{◌≡◌, ◌≤◌, length};
 ghost use Rattle.cable_rules.specs.Checks.{cable_from, outside_field};
 ghost use Rattle.cable_rules.specs.Promises.{Checked, Alone, GivenBy};
 
-pub use cable_rules::{Cable, CableCheck};
+pub use cable_rules::Cable;
 use refusals::{Place, Refusal};
 
 // The cable of its fields in table order; there are eight at least.
@@ -29,34 +29,30 @@ pub fn cable_from(fields: &[u32]) -> Cable
 const DEFAULT_DIFFUSIVITY: u32 = 500;
 
 // Refusal 2 at the first field outside its range, refusal 3 where the slow rate is above the fast one, or the cable as it is.
-pub fn check_cable(cable: Cable) -> CableCheck
+pub fn check_cable(cable: Cable) -> Result<Cable, Refusal>
     ensures { Checked cable result }
 {
-    let field = outside_field(cable);
-    if 0 < field {
-        return CableCheck::Refused(Refusal {
+    if let Some(field) = outside_field(cable) {
+        return Err(Refusal {
             number: 2,
             place: Place::Field(field),
         });
     }
     if cable.fast_rate < cable.slow_rate {
-        return CableCheck::Refused(Refusal {
+        return Err(Refusal {
             number: 3,
             place: Place::None,
         });
     }
-    CableCheck::Accepted(cable)
+    Ok(cable)
 }
 
 // What a calculation is given by a cable: the cable in use, or the refusal of check 2 or 3.
-pub fn given(cable: Cable) -> CableCheck
+pub fn given(cable: Cable) -> Result<Cable, Refusal>
     ensures { GivenBy cable result }
 {
-    let checked = check_cable(cable);
-    match checked {
-        CableCheck::Accepted(accepted) => CableCheck::Accepted(alone(accepted)),
-        CableCheck::Refused(refusal) => CableCheck::Refused(refusal),
-    }
+    let accepted = check_cable(cable)?;
+    Ok(alone(accepted))
 }
 
 // The cable in use, with nothing beside it: the default is put for a diffusivity of 0.
@@ -82,8 +78,8 @@ const RANGES: [[u32; 2]; 8] = [
     [50, 2000], // rated current
 ];
 
-// The number of the first field outside its range, or 0. A diffusivity of 0 is a value: the least one is tested for it.
-fn outside_field(cable: Cable) -> u8
+// The number of the first field outside its range. A diffusivity of 0 is a value: the least one is tested for it.
+fn outside_field(cable: Cable) -> Option<u8>
     ensures { result ≡ outside_field cable }
 {
     let ranges = RANGES;

@@ -1,4 +1,5 @@
 -- Checks 2 and 3 pass exactly where the cable in use is in range and so is its field 8.
+use Rattle.std.proofs.Common.{Option, Some, None, Result, Ok, Err}
 use mathlib.Core.Path.{◌≡◌, refl, ap, subst, ◌∙◌}
 use mathlib.Core.Bool.{Bool, true, false, cond}
 use Prim.Native.Nat.{ℕ, ◌≤◌, ◌<◌}
@@ -7,7 +8,7 @@ use borrow.Author.Tests.{ltb-false, le-ltb}
 use lib.Dec.{eqb, ltb}
 use Rattle.ranges.specs.Ranges.{◌to◌, or_zero, outside}
 use Rattle.ranges.proofs.Ranges.{passed_within, within_passes, Each, none_outside, each_passes}
-use Rattle.cable_rules.specs.Checks.{ranges, fields, outside_field, checked, in_use}
+use Rattle.cable_rules.specs.Checks.{ranges, fields, outside_field, after_fields, checked, in_use}
 use Rattle.cable_rules.specs.Stated.{stated_check}
 use mathlib.Core.List.{List}
 use Rattle.exact.specs.Share.{Neighbour, AllInTrench, none}
@@ -15,8 +16,6 @@ use Rattle.cable_rules.specs.Group.{Group, only, accepted, refused, alone, after
 use Rattle.cable_rules.specs.InRange.{numbers_in, Acceptable, Sound}
 use Rattle.cable_rules.specs.declared.Cable.{Cable}
 use Rattle.refusals.specs.declared.Refusal.{Refusal}
-use Rattle.cable_rules.specs.declared.CableCheck.{CableCheck}
-use Rattle.cable_rules.specs.declared.CableCheck.TheVariants.{Accepted, Refused}
 
 -- the diffusivity in use, where the default is in range
 module _ (low high default x : ℕ) (l : low ≤ default) (h : default ≤ high) where
@@ -34,18 +33,18 @@ p and q = (p, q)
 
 -- ---- the two checks
 
-both_passed : (t u : Bool) (f g : Refusal) (c : Cable) → 0 < f.number → 0 < g.number → (stated_check (cond t (Refused f) (cond u (Refused g) (Accepted c)))).number ≡ 0 → (t ≡ false) × (u ≡ false)
-both_passed true u f g c p q e = absurd (omega arith)
-both_passed false true f g c p q e = absurd (omega arith)
-both_passed false false f g c p q e = (refl, refl)
+both_passed : (o : Option ℕ) (u : Bool) (g : Refusal) (c : Cable) → 0 < g.number → (stated_check (after_fields o (cond u (Err g) (Ok c)))).number ≡ 0 → (o ≡ None) × (u ≡ false)
+both_passed (Some field) u g c q e = absurd (omega arith)
+both_passed None true g c q e = absurd (omega arith)
+both_passed None false g c q e = (refl, refl)
 
 -- with any default that is in the range of field 3
 module _ (default : ℕ) (least : 100 ≤ default) (most : default ≤ 2000) where
   in_use_acceptable : (c : Cable) → (stated_check (checked c)).number ≡ 0 → Acceptable (only (in_use default c))
   unfolding checked outside_field in_use
   in_use_acceptable c e =
-      let both = both_passed (ltb 0 (outside_field c)) (ltb c.fast_rate c.slow_rate) _ _ c (omega arith) (omega arith) e in
-      let i = none_outside 1 ranges (fields c) (omega arith) (omega (arith, ltb-false 0 (outside_field c) both.0)) in
+      let both = both_passed (outside_field c) (ltb c.fast_rate c.slow_rate) _ c (omega arith) e in
+      let i = none_outside 1 ranges (fields c) both.0 in
       let d = passed_within 100 1500 c.diameter i.0 in
       let l = passed_within 300 5000 c.depth i.1.0 in
       let s = used_within 100 2000 default c.diffusivity least most (eqb c.diffusivity 0) refl i.1.1.0 in
@@ -75,7 +74,7 @@ module _ (default : ℕ) (least : 100 ≤ default) (most : default ≤ 2000) whe
         rated_to = rated.1;
       }
 
-  acceptable_in_use : (c : Cable) → Acceptable (only (in_use default c)) → checked c ≡ Accepted c
+  acceptable_in_use : (c : Cable) → Acceptable (only (in_use default c)) → checked c ≡ Ok c
   unfolding checked outside_field in_use
   acceptable_in_use c a =
       let n = a.numbers in
@@ -95,7 +94,7 @@ module _ (default : ℕ) (least : 100 ≤ default) (most : default ≤ 2000) whe
 pub accepted_in_range : (c : Cable) → (stated_check (checked c)).number ≡ 0 → Acceptable (alone c)
 accepted_in_range c e = in_use_acceptable _ (omega arith) (omega arith) c e
 
-pub in_range_accepted : (c : Cable) → Acceptable (alone c) → checked c ≡ Accepted c
+pub in_range_accepted : (c : Cable) → Acceptable (alone c) → checked c ≡ Ok c
 in_range_accepted c a = acceptable_in_use _ (omega arith) (omega arith) c a
 
 -- a cable that is acceptable alone is so with neighbours that may lie beside it
@@ -124,35 +123,35 @@ beside_acceptable used ns a beside =
     }
 
 -- an accepted cable comes back as it is
-accepted_same : (t u : Bool) (f g : Refusal) (c d : Cable) → cond t (Refused f) (cond u (Refused g) (Accepted c)) ≡ Accepted d → d ≡ c
-accepted_same true u f g c d e = let z : ◌≡◌ {A = ℕ} 0 1 = cc in absurd (omega arith)
-accepted_same false true f g c d e = let z : ◌≡◌ {A = ℕ} 0 1 = cc in absurd (omega arith)
-accepted_same false false f g c d e = cc
+accepted_same : (o : Option ℕ) (u : Bool) (g : Refusal) (c d : Cable) → after_fields o (cond u (Err g) (Ok c)) ≡ Ok d → d ≡ c
+accepted_same (Some field) u g c d e = let z : ◌≡◌ {A = ℕ} 0 1 = cc in absurd (omega arith)
+accepted_same None true g c d e = let z : ◌≡◌ {A = ℕ} 0 1 = cc in absurd (omega arith)
+accepted_same None false g c d e = cc
 
-pub accepted_is : (c d : Cable) → checked c ≡ Accepted d → d ≡ c
+pub accepted_is : (c d : Cable) → checked c ≡ Ok d → d ≡ c
 unfolding checked outside_field
-accepted_is c d e = accepted_same (ltb 0 (outside_field c)) (ltb c.fast_rate c.slow_rate) _ _ c d e
+accepted_is c d e = accepted_same (outside_field c) (ltb c.fast_rate c.slow_rate) _ c d e
 
 -- ---- what is given
 
-pub check_given : (c d : Cable) {g : Group} → checked c ≡ Accepted d → g ≡ alone d → accepted g ≡ given_cable c
+pub check_given : (c d : Cable) {g : Group} → checked c ≡ Ok d → g ≡ alone d → accepted g ≡ given_cable c
 unfolding given_cable
 check_given c d e u = rw (e, given_cable) (ap accepted (u ∙ ap alone (accepted_is c d e)))
 
-pub check_refused : (c : Cable) {f : Refusal} → checked c ≡ Refused f → refused f ≡ given_cable c
+pub check_refused : (c : Cable) {f : Refusal} → checked c ≡ Err f → refused f ≡ given_cable c
 unfolding given_cable
 check_refused c e = rw (e, given_cable)
 
-given_by : (c : Cable) (a : CableCheck) {g : Group} → checked c ≡ a → after_check a (accepted (alone c)) ≡ accepted g → (checked c ≡ Accepted c) × (alone c ≡ g)
-given_by c (Accepted d) e p = (e ∙ ap Accepted (accepted_is c d e), cc)
-given_by c (Refused f) e p = let z : ◌≡◌ {A = ℕ} 0 1 = cc in absurd (omega arith)
+given_by : (c : Cable) (a : Result Cable Refusal) {g : Group} → checked c ≡ a → after_check a (accepted (alone c)) ≡ accepted g → (checked c ≡ Ok c) × (alone c ≡ g)
+given_by c (Ok d) e p = (e ∙ ap Ok (accepted_is c d e), cc)
+given_by c (Err f) e p = let z : ◌≡◌ {A = ℕ} 0 1 = cc in absurd (omega arith)
 
 -- a cable gives the group of itself alone, and only where both checks pass
-pub given_alone : (c : Cable) {g : Group} → given_cable c ≡ accepted g → (checked c ≡ Accepted c) × (alone c ≡ g)
+pub given_alone : (c : Cable) {g : Group} → given_cable c ≡ accepted g → (checked c ≡ Ok c) × (alone c ≡ g)
 unfolding given_cable
 given_alone c p = given_by c (checked c) refl p
 
 pub given_sound : (c : Cable) → Sound (given_cable c)
 given_sound c g p =
     let by = given_alone c p in
-    subst Acceptable by.1 (accepted_in_range c (ap (λ (a : CableCheck). (stated_check a).number) by.0))
+    subst Acceptable by.1 (accepted_in_range c (ap (λ (a : Result Cable Refusal). (stated_check a).number) by.0))

@@ -1,11 +1,10 @@
 -- Worked examples of the checks: document 01, 'When the desk is told no', numbers 2 and 3, and 'The cable': "No other zero means missing".
-use Rattle.std.specs.Prelude.{◌≡◌, refl, [], ◌∷◌, ℕ}
+use Rattle.std.specs.Prelude.{◌≡◌, refl, [], ◌∷◌, ℕ, Result, Ok, Err}
 use Rattle.cable_rules.specs.Checks.{fields, cable_from, checked, outside_field, in_use}
 use Rattle.cable_rules.specs.Group.{accepted, refused, only, alone, given_cable}
 use Rattle.cable_rules.specs.declared.Cable.{Cable}
 use Rattle.refusals.specs.declared.Place.TheVariants.{None, Field}
-use Rattle.cable_rules.specs.declared.CableCheck.{CableCheck}
-use Rattle.cable_rules.specs.declared.CableCheck.TheVariants.{Accepted, Refused}
+use Rattle.refusals.specs.declared.Refusal.{Refusal}
 
 -- The eight fields in table order.
 abbrev cable : ℕ → ℕ → ℕ → ℕ → ℕ → ℕ → ℕ → ℕ → Cable
@@ -33,23 +32,23 @@ fields_in_table_order :
     fields (cable d l s k w fast slow rated) ≡ d ∷ l ∷ s ∷ k ∷ w ∷ fast ∷ slow ∷ rated ∷ []
 fields_in_table_order d l s k w fast slow rated = refl
 
-abbrev refused_2 : ℕ → CableCheck
-refused_2 field = Refused (record { number = 2; place = Field field })
+abbrev refused_2 : ℕ → Result Cable Refusal
+refused_2 field = Err (record { number = 2; place = Field field })
 
-abbrev refused_3 : CableCheck
-refused_3 = Refused (record { number = 3; place = None })
+abbrev refused_3 : Result Cable Refusal
+refused_3 = Err (record { number = 3; place = None })
 
 -- cable A of 'Cases'
-cable_a_lem : checked (cable 500 1000 500 600000 500000 1000 100 400) ≡ Accepted (cable 500 1000 500 600000 500000 1000 100 400)
+cable_a_lem : checked (cable 500 1000 500 600000 500000 1000 100 400) ≡ Ok (cable 500 1000 500 600000 500000 1000 100 400)
 unfolding checked outside_field
 cable_a_lem = refl
 
 -- 0 for k and for w is a value
-zero_ratio : checked (cable 500 1000 500 0 500000 1000 100 400) ≡ Accepted (cable 500 1000 500 0 500000 1000 100 400)
+zero_ratio : checked (cable 500 1000 500 0 500000 1000 100 400) ≡ Ok (cable 500 1000 500 0 500000 1000 100 400)
 unfolding checked outside_field
 zero_ratio = refl
 
-zero_weight : checked (cable 500 1000 500 600000 0 1000 100 400) ≡ Accepted (cable 500 1000 500 600000 0 1000 100 400)
+zero_weight : checked (cable 500 1000 500 600000 0 1000 100 400) ≡ Ok (cable 500 1000 500 600000 0 1000 100 400)
 unfolding checked outside_field
 zero_weight = refl
 
@@ -103,7 +102,7 @@ unfolding checked outside_field
 two_fields = refl
 
 -- 0 in field 3 is accepted as it is, and 500 is used for it
-zero_diffusivity : checked (cable 500 1000 0 600000 500000 1000 100 400) ≡ Accepted (cable 500 1000 0 600000 500000 1000 100 400)
+zero_diffusivity : checked (cable 500 1000 0 600000 500000 1000 100 400) ≡ Ok (cable 500 1000 0 600000 500000 1000 100 400)
 unfolding checked outside_field
 zero_diffusivity = refl
 

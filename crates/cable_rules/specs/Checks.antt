@@ -1,10 +1,9 @@
 -- Document 01, 'The cable' and 'When the desk is told no', numbers 2 and 3: the range of each field, the first refusal, and the diffusivity in use.
-use Rattle.std.specs.Prelude.{cond, List, [], ◌∷◌, ℕ, eqb, ltb, get_or}
+use Rattle.std.specs.Prelude.{cond, List, [], ◌∷◌, ℕ, eqb, ltb, get_or, Option, Some, None, Result, Ok, Err}
 use Rattle.ranges.specs.Ranges.{Range, ◌to◌, or_zero, first_outside}
 use Rattle.cable_rules.specs.declared.Cable.{Cable}
-use Rattle.refusals.specs.declared.Place.TheVariants.{None, Field}
-use Rattle.cable_rules.specs.declared.CableCheck.{CableCheck}
-use Rattle.cable_rules.specs.declared.CableCheck.TheVariants.{Accepted, Refused}
+use Rattle.refusals.specs.declared.Place.TheVariants as P
+use Rattle.refusals.specs.declared.Refusal.{Refusal}
 
 -- The table's last column.
 abbrev pub ranges : List Range
@@ -46,15 +45,20 @@ cable_from xs =
       rated = get_or xs 7 0;
     }
 
-unfoldable pub outside_field : Cable → ℕ
+unfoldable pub outside_field : Cable → Option ℕ
 outside_field c = first_outside 1 ranges (fields c)
 
+-- what follows where no field is outside its range
+abbrev pub after_fields : Option ℕ → Result Cable Refusal → Result Cable Refusal
+after_fields (Some field) check = Err (record { number = 2; place = P.Field field })
+after_fields None check = check
+
 -- The first refusal in the order of the numbers, or the cable as it is.
-unfoldable pub checked : Cable → CableCheck
+unfoldable pub checked : Cable → Result Cable Refusal
 checked c =
-    cond (ltb 0 (outside_field c)) (Refused (record { number = 2; place = Field (outside_field c) }))
-    (cond (ltb c.fast_rate c.slow_rate) (Refused (record { number = 3; place = None }))
-    (Accepted c))
+    after_fields (outside_field c)
+    (cond (ltb c.fast_rate c.slow_rate) (Err (record { number = 3; place = P.None }))
+    (Ok c))
 
 -- The cable with which everything is computed: the default for a diffusivity of 0.
 unfoldable pub in_use : ℕ → Cable → Cable

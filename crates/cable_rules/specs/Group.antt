@@ -1,12 +1,10 @@
 -- What a calculation is asked of: a cable in the ground with what lies beside it, or the refusal of what was handed in. Every calculation is defined once over
 -- this, however its cable was come by.
-use Rattle.std.specs.Prelude.{List, [], ℕ}
+use Rattle.std.specs.Prelude.{List, [], ℕ, Result, Ok, Err}
 use Rattle.exact.specs.Share.{Neighbour}
 use Rattle.refusals.specs.declared.Refusal.{Refusal}
 use Rattle.cable_rules.specs.Checks.{checked, in_use}
 use Rattle.cable_rules.specs.declared.Cable.{Cable}
-use Rattle.cable_rules.specs.declared.CableCheck.{CableCheck}
-use Rattle.cable_rules.specs.declared.CableCheck.TheVariants.{Accepted, Refused}
 
 -- The cable in use, and its neighbours in the trench.
 pub record Group : Type 0 where
@@ -34,14 +32,14 @@ pub data Given : Type 0 where
   refused : Refusal → Given
 
 -- what is given where checks 2 and 3 pass; their refusal passes out unchanged
-abbrev pub after_check : CableCheck → Given → Given
-after_check (Accepted c) given = given
-after_check (Refused f) given = refused f
+abbrev pub after_check : Result Cable Refusal → Given → Given
+after_check (Ok c) given = given
+after_check (Err f) given = refused f
 
 unfoldable pub given_cable : Cable → Given
 given_cable cable = after_check (checked cable) (accepted (alone cable))
 
 -- a check's cable, where that is the one in use, as what is given
-abbrev pub as_given : CableCheck → Given
-as_given (Accepted used) = accepted (only used)
-as_given (Refused f) = refused f
+abbrev pub as_given : Result Cable Refusal → Given
+as_given (Ok used) = accepted (only used)
+as_given (Err f) = refused f

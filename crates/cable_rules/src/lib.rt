@@ -1,8 +1,6 @@
 // A cable, and what its checks 2 and 3 find: types, definitions and laws.
 #![tactic(auto)]
 
-use refusals::Refusal;
-
 // The fields in the order and the units of document 01's table; a diffusivity of 0 stands for the default.
 #[derive(Clone, Copy)]
 pub struct Cable {
@@ -14,11 +12,4 @@ pub struct Cable {
     pub fast_rate: u32,
     pub slow_rate: u32,
     pub rated: u32,
-}
-
-// The cable as it is, or its first refusal in the order 2, 3.
-#[derive(Clone, Copy)]
-pub enum CableCheck {
-    Accepted(Cable),
-    Refused(Refusal),
 }

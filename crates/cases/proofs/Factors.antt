@@ -1,5 +1,6 @@
 -- C3 and C4. Document 02, note 1: "C3 and C4 keep their answers." What multiplies each share is computed from the hours, for every reference hour of C3 and for C4's
 -- loaded hour. C4's largest sum is that hour's at least, and at most what the law that no exact sum passes one leaves.
+use Rattle.std.proofs.Common.{Option, Some, None, is_some}
 use mathlib.Core.Path.{◌≡◌, refl, sym, ap, subst, ◌∙◌}
 use mathlib.Core.Bool.{Bool, true, false, cond}
 use mathlib.Core.List.{List, [], ◌∷◌}
@@ -37,16 +38,16 @@ use Rattle.cases.proofs.Rises.{none_of}
 
 -- ---- the factor from the numbers of a day
 
--- the first hour above 4,000 A, 1 for a load of nothing, the highest load, and Y0 to Y5 and the mean of a reference hour in their common units
+-- 1 where an hour is above 4,000 A, 1 for a load of nothing, the highest load, and Y0 to Y5 and the mean of a reference hour in their common units
 abbrev numbers : List ℕ → ℕ → List ℕ
 numbers hours hour =
-    first_above 0 hours ∷ cond (all_zero hours) 1 0 ∷ highest_load hours
+    cond (is_some (first_above hours)) 1 0 ∷ cond (all_zero hours) 1 0 ∷ highest_load hours
     ∷ relative_load hours hour 0 ∷ relative_load hours hour 1 ∷ relative_load hours hour 2 ∷ relative_load hours hour 3
     ∷ relative_load hours hour 4 ∷ relative_load hours hour 5 ∷ relative_load hours hour 6 ∷ []
 
 -- Y1 to Y5 are equal
 abbrev Day : List ℕ → ℕ → ℕ → ℕ → ℕ → ℕ → Type 0
-Day hours hour top first rest mean = numbers hours hour ≡ 24 ∷ 0 ∷ top ∷ first ∷ rest ∷ rest ∷ rest ∷ rest ∷ rest ∷ mean ∷ []
+Day hours hour top first rest mean = numbers hours hour ≡ 0 ∷ 0 ∷ top ∷ first ∷ rest ∷ rest ∷ rest ∷ rest ∷ rest ∷ mean ∷ []
 
 some_load : (b : Bool) → ◌≡◌ {A = ℕ} (cond b 1 0) 0 → b ≡ false
 some_load true e = absurd (omega arith)
@@ -77,7 +78,7 @@ module _ (pairs : ℕ → Bounds) (hours : List ℕ) (hour top first rest mean :
       rw (heating_bounds, t, e0, e1, e2, e3, e4, e5, e6)
 
 -- the answer of an accepted day is the factor of the largest sum
-day_factor : (pairs : ℕ → Bounds) (hours : List ℕ) → first_above 0 hours ≡ 24 → all_zero hours ≡ false
+day_factor : (pairs : ℕ → Bounds) (hours : List ℕ) → first_above hours ≡ None → all_zero hours ≡ false
     → factor_from pairs hours ≡ Factor (largest_factor (heating_sum pairs hours (reference_hour pairs hours)))
 unfolding factor_from
 day_factor pairs hours f z = rw (factor_from, f, z)
@@ -183,9 +184,13 @@ full_60 = all_of_b 60 (accepted_b 60 (omega arith) (omega arith)) (by_order (1 p
 
 -- no hour is above 4,000 A, and the one hour is the highest load
 record AcceptedDay (hours : List ℕ) : Type 0 where
-  none_above : first_above 0 hours ≡ 24
+  none_above : first_above hours ≡ None
   some : all_zero hours ≡ false
   loaded : 0 < highest_load hours
+
+none_above_lem : (o : Option ℕ) → ◌≡◌ {A = ℕ} (cond (is_some o) 1 0) 0 → o ≡ None
+none_above_lem (Some h) e = absurd (omega arith)
+none_above_lem None e = refl
 
 accepted_day : (hour : ℕ) → hour < 24 → AcceptedDay (one_hour hour 400)
 accepted_day hour h =
@@ -193,7 +198,8 @@ accepted_day hour h =
     let day : Day hours hour 400 3840000 0 160000 = run one_hour_lem hour (omega arith) (omega arith) in
     let z : ◌≡◌ {A = ℕ} (cond (all_zero hours) 1 0) 0 = cc in
     let t : highest_load hours ≡ 400 = cc in
-    record { none_above = cc; some = some_load (all_zero hours) z; loaded = omega arith }
+    let n : ◌≡◌ {A = ℕ} (cond (is_some (first_above hours)) 1 0) 0 = cc in
+    record { none_above = none_above_lem (first_above hours) n; some = some_load (all_zero hours) z; loaded = omega arith }
 
 pub C4 : Meant (any_hour (λ hour. factor (given_cable cable_b) (one_hour hour 400)) (values (999 ∷ [])))
 unfolding given_cable checked outside_field

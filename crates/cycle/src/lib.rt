@@ -1,10 +1,11 @@
 // The cyclic rating factor of a cable: document 01, 'The daily cycle', with the reference hour of document 02, note 1, 'The hottest hour'; and note 2.
 #![tactic(auto)]
 
-ghost use Rattle.std.specs.Prelude.{◌≡◌};
+ghost use Rattle.std.specs.Prelude.{◌≡◌, ◌<◌, IfSome};
 ghost use Rattle.refusals.specs.Apart.{parts_of};
 ghost use Rattle.cable_rules.specs.Group.{given_cable};
 ghost use Rattle.sheet_rules.specs.Sheet.{given_sheet, group_in, as_given_in, Laid, OnlyLaid};
+ghost use Rattle.cycle_rules.specs.Day.{day_hours};
 ghost use Rattle.cycle_rules.specs.Heating.{heating_sum, reference_hour};
 ghost use Rattle.cycle_rules.specs.Factor.{largest_factor};
 ghost use Rattle.cycle_rules.specs.Answer.{first_above, factor_from, factor_answer, hour_pair, stated_factor, FactorSaid};
@@ -18,7 +19,7 @@ pub use cycle_rules::FactorAnswer;
 use heating::HEATING_HOURS;
 use refusals::{Parts, Place, Refusal};
 use share::ShareAnswer;
-use sheet::{Trench, TrenchCheck};
+use sheet::Trench;
 
 // In A.
 const MOST_AMPERES: u16 = 4000;
@@ -43,13 +44,17 @@ pub fn factor_in_sheet(sheet: &[u8], hours: [u16; DAY_HOURS]) -> FactorAnswer
 }
 
 // The factor of what is given, or the refusal of what was handed in.
-fn factor_given(sheet: &[u8], given: TrenchCheck, hours: [u16; DAY_HOURS]) -> FactorAnswer
+fn factor_given(
+    sheet: &[u8],
+    given: Result<Trench, Refusal>,
+    hours: [u16; DAY_HOURS],
+) -> FactorAnswer
     requires { OnlyLaid sheet.now given }
     ensures { result ≡ factor_answer (as_given_in sheet.now given) hours }
 {
     match given {
-        TrenchCheck::Accepted(trench) => factor_of(sheet, trench, hours),
-        TrenchCheck::Refused(refusal) => FactorAnswer::Refused(refusal),
+        Ok(trench) => factor_of(sheet, trench, hours),
+        Err(refusal) => FactorAnswer::Refused(refusal),
     }
 }
 
@@ -58,11 +63,10 @@ pub fn factor_of(sheet: &[u8], trench: Trench, hours: [u16; DAY_HOURS]) -> Facto
     requires { Laid sheet.now trench }
     ensures { result ≡ factor_from (hour_pair (group_in sheet.now trench)) hours }
 {
-    let above = first_above(hours);
-    if above < DAY_HOURS {
+    if let Some(hour) = first_above(hours) {
         return FactorAnswer::Refused(Refusal {
             number: 10,
-            place: Place::Hour(above as u8),
+            place: Place::Hour(hour as u8),
         });
     }
     if heating::highest_load(hours) == 0 {
@@ -74,13 +78,13 @@ pub fn factor_of(sheet: &[u8], trench: Trench, hours: [u16; DAY_HOURS]) -> Facto
     factor_of_day(sheet, trench, hours)
 }
 
-// What an answer states.
+// What an answer states. No From, which would have to stand beside the answer's type, in a crate that has definitions alone.
 pub fn parts(answer: FactorAnswer) -> Parts
     ensures { result ≡ parts_of (stated_factor answer) }
 {
     match answer {
-        FactorAnswer::Factor(m) => refusals::of_value(m),
-        FactorAnswer::Refused(refusal) => refusals::of_refusal(refusal),
+        FactorAnswer::Factor(m) => Parts::from(m),
+        FactorAnswer::Refused(refusal) => Parts::from(refusal),
     }
 }
 
@@ -94,23 +98,17 @@ fn factor_of_day(sheet: &[u8], trench: Trench, hours: [u16; DAY_HOURS]) -> Facto
     for i in 0..HEATING_HOURS {
         let answer = share::share_of(sheet, trench, HOUR * (i as u32 + 1));
         let ShareAnswer::Pair(pair) = answer else {
-            return FactorAnswer::Refused(refusals::refusal_in(share::parts(answer)));
+            return FactorAnswer::Refused(Refusal::from(share::parts(answer)));
         };
         shares[i] = pair;
     }
     FactorAnswer::Factor(factors::largest_factor(heating::largest_sum(shares, hours)))
 }
 
-// The first hour above 4,000 A, or 24.
-fn first_above(hours: [u16; DAY_HOURS]) -> usize
-    ensures { result ≡ first_above 0 hours }
+// The first hour above 4,000 A.
+fn first_above(hours: [u16; DAY_HOURS]) -> Option<usize>
+    ensures answer { result ≡ first_above hours }
+    ensures within { IfSome result (λ hour. hour < day_hours) }
 {
-    let mut k: usize = 0;
-    while k < DAY_HOURS {
-        if MOST_AMPERES < hours[k] {
-            return k;
-        }
-        k += 1;
-    }
-    k
+    hours.iter().position(|amperes| MOST_AMPERES < *amperes)
 }

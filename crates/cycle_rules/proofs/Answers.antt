@@ -1,4 +1,5 @@
 -- The answer of a cyclic factor in each of its ways out, and the shares that are given at whole hours.
+use Rattle.std.proofs.Common.{Option, Some, None}
 use mathlib.Core.Path.{◌≡◌, sym, ap, ◌∙◌}
 use mathlib.Core.Bool.{true, false}
 use mathlib.Core.List.{List}
@@ -22,7 +23,7 @@ use Rattle.share_rules.proofs.Promises.{share_pair_range, answered_pair}
 use Rattle.cycle_rules.specs.Day.{day_hours, highest_load}
 use Rattle.cycle_rules.specs.Heating.{heating_hours, heating_sum, reference_hour}
 use Rattle.cycle_rules.specs.Factor.{largest_factor}
-use Rattle.cycle_rules.specs.Answer.{first_above, all_zero, refused10, refused11, factor_from, hour_pair, factor_answer}
+use Rattle.cycle_rules.specs.Answer.{first_above, all_zero, refused10, refused11, after_hours, factor_from, hour_pair, factor_answer}
 use Rattle.cycle_rules.specs.declared.FactorAnswer.{FactorAnswer}
 use Rattle.cycle_rules.specs.declared.FactorAnswer.TheVariants.{Factor, Refused}
 use Rattle.cycle_rules.proofs.Day.{highest_zero, some_loaded}
@@ -54,22 +55,22 @@ module _ (g : Group) (i : ℕ) where
 -- ---- the ways out
 
 module _ (pairs : ℕ → Bounds) (hours : List ℕ) where
-  pub hour_refused : {k : ℕ} → k ≡ first_above 0 hours → k < day_hours → Refused (refused10 k) ≡ factor_from pairs hours
+  pub hour_refused : {k : ℕ} → first_above hours ≡ Some k → Refused (refused10 k) ≡ factor_from pairs hours
   unfolding factor_from
-  hour_refused {k} p h = rw (factor_from, ← p, lt-ltb k day_hours h)
+  hour_refused p = rw (factor_from, p)
 
-  module _ {k : ℕ} (p : k ≡ first_above 0 hours) (none : day_hours ≤ k) where
+  module _ (p : first_above hours ≡ None) where
     pub nothing_refused : length hours ≡ day_hours → highest_load hours ≡ 0 → Refused refused11 ≡ factor_from pairs hours
     unfolding factor_from
     nothing_refused l z =
         let all : all_zero hours ≡ true = highest_zero hours (rw l z) in
-        rw (factor_from, ← p, le-ltb k day_hours none, all)
+        rw (factor_from, p, all)
 
     pub factor_given : {r : FactorAnswer} → 0 < highest_load hours → r ≡ Factor (largest_factor (heating_sum pairs hours (reference_hour pairs hours))) → r ≡ factor_from pairs hours
     unfolding factor_from
     factor_given z q =
         let some : all_zero hours ≡ false = some_loaded hours day_hours z in
-        q ∙ rw (factor_from, ← p, le-ltb k day_hours none, some)
+        q ∙ rw (factor_from, p, some)
 
 -- what is given decides
 pub answer_given : {given is : Given} (hours : List ℕ) {r : FactorAnswer} → given ≡ is → r ≡ factor_answer is hours → r ≡ factor_answer given hours

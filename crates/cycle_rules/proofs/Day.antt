@@ -15,20 +15,7 @@ use lib.Seq.{drop-cons, drop-length}
 use mir.Syntax.{w16}
 use mir.Val.{Fits}
 use Rattle.cycle_rules.specs.Day.{load, highest_of, squared_load, squared_loads}
-use Rattle.cycle_rules.specs.Answer.{most_amperes, first_above, all_zero}
-
--- ---- the first hour above 4,000 A
-
-module _ (hours : List ℕ) (k : ℕ) where
-  module _ (h : k < length hours) where
-    pub above_here : most_amperes < load hours k → first_above k (drop k hours) ≡ k
-    above_here p = rw (drop-cons hours k 0 h) (simp (lt-ltb most_amperes (load hours k) p))
-
-    pub above_later : load hours k ≤ most_amperes → first_above k (drop k hours) ≡ first_above (k + 1) (drop (k + 1) hours)
-    above_later p = rw (add-one k, drop-cons hours k 0 h) (simp (le-ltb most_amperes (load hours k) p))
-
-  pub above_none : length hours ≡ k → first_above k (drop k hours) ≡ k
-  above_none e = rw (← e, drop-length hours)
+use Rattle.cycle_rules.specs.Answer.{all_zero}
 
 -- ---- the highest load
 

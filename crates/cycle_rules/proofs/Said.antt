@@ -1,5 +1,6 @@
 -- What is promised of an answer follows from the answer: a factor that is given is the distance of document 01, 'What the distances say', from the exact one, which
 -- is that of the largest exact sum (document 02, note 1). And what is true of that sum for every accepted group and day.
+use Rattle.std.proofs.Common.{Option, Some, None}
 use mathlib.Core.Path.{◌≡◌, refl, sym, ap, subst, ◌∙◌}
 use mathlib.Core.Bool.{Bool, true, false, cond}
 use mathlib.Core.List.{List, [], ◌∷◌}
@@ -30,7 +31,7 @@ use Rattle.cycle_rules.specs.Day.{day_hours, highest_load}
 use Rattle.cycle_rules.specs.Heating.{heating_hours, common_divisor, heating_sum, reference_hour}
 use Rattle.cycle_rules.specs.Factor.{largest_factor}
 use Rattle.cycle_rules.specs.Exact.{exact_heating, largest_heating, sum_width, FactorDistance}
-use Rattle.cycle_rules.specs.Answer.{first_above, all_zero, refused10, refused11, factor_from, hour_pair, factor_answer, stated_factor, FactorSaid}
+use Rattle.cycle_rules.specs.Answer.{first_above, all_zero, refused11, after_hours, factor_from, hour_pair, factor_answer, stated_factor, FactorSaid}
 use Rattle.cycle_rules.specs.declared.FactorAnswer.{FactorAnswer}
 use Rattle.cycle_rules.specs.declared.FactorAnswer.TheVariants.{Factor, Refused}
 use Rattle.cycle_rules.proofs.Day.{highest_zero}
@@ -100,16 +101,16 @@ record Reported (g : Group) (hours : List ℕ) (m : ℕ) : Type 0 where
   largest_is : largest_factor (heating_sum (hour_pair g) hours (reference_hour (hour_pair g) hours)) ≡ m
 
 module _ (g : Group) (a : Acceptable g) (hours : List ℕ) (l : length hours ≡ day_hours) {m : ℕ} (e : factor_from (hour_pair g) hours ≡ Factor m) where
-  by_tests : (t u : Bool) → all_zero hours ≡ u
-      → cond t (Refused (refused10 (first_above 0 hours))) (cond u (Refused refused11) (Factor (largest_factor (heating_sum (hour_pair g) hours (reference_hour (hour_pair g) hours))))) ≡ Factor m
+  by_tests : (o : Option ℕ) (u : Bool) → all_zero hours ≡ u
+      → after_hours o (cond u (Refused refused11) (Factor (largest_factor (heating_sum (hour_pair g) hours (reference_hour (hour_pair g) hours))))) ≡ Factor m
       → Reported g hours m
-  by_tests true u eu q = let z : ◌≡◌ {A = ℕ} 0 1 = cc in absurd (omega arith)
-  by_tests false true eu q = let z : ◌≡◌ {A = ℕ} 0 1 = cc in absurd (omega arith)
-  by_tests false false eu q = record { loaded = some_load hours l eu; largest_is = cc }
+  by_tests (Some hour) u eu q = let z : ◌≡◌ {A = ℕ} 0 1 = cc in absurd (omega arith)
+  by_tests None true eu q = let z : ◌≡◌ {A = ℕ} 0 1 = cc in absurd (omega arith)
+  by_tests None false eu q = record { loaded = some_load hours l eu; largest_is = cc }
 
   report : Reported g hours m
   unfolding factor_from
-  report = by_tests (ltb (first_above 0 hours) day_hours) (all_zero hours) refl e
+  report = by_tests (first_above hours) (all_zero hours) refl e
 
   reported_distance : FactorDistance (width_of g) (largest_heating (exact_share g) hours) m
   reported_distance =

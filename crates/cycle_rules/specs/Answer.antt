@@ -1,14 +1,14 @@
 -- Document 01, 'The daily cycle' and 'When the desk is told no': the answer of a cyclic factor, in the order 2, 3, 10, 11. Document 02, note 2:
 -- of a sheet, "whose refusals then precede their own".
-use Rattle.std.specs.Prelude.{◌≡◌, Bool, true, cond, ◌&&◌, List, [], ◌∷◌, ℕ, suc, ◌*◌, ltb, eqb, pos}
+use Rattle.std.specs.Prelude.{◌≡◌, Bool, true, cond, ◌&&◌, List, [], ◌∷◌, ℕ, ◌*◌, nat_lt, eqb, pos, Option, Some, None}
+use Rattle.std.specs.List.{position}
 use Rattle.bounds.specs.declared.Bounds.{Bounds}
 use Rattle.refusals.specs.Stated.{Stated, stated_values, stated_refusal}
 use Rattle.refusals.specs.declared.Refusal.{Refusal}
-use Rattle.refusals.specs.declared.Place.TheVariants.{None, Hour}
+use Rattle.refusals.specs.declared.Place.TheVariants as P
 use Rattle.cable_rules.specs.Group.{Group, Given, accepted, refused}
 use Rattle.share_rules.specs.Pair.{share_pair}
 use Rattle.share_rules.specs.Promises.{width_of, exact_share}
-use Rattle.cycle_rules.specs.Day.{day_hours}
 use Rattle.cycle_rules.specs.Heating.{heating_sum, reference_hour}
 use Rattle.cycle_rules.specs.Factor.{largest_factor}
 use Rattle.cycle_rules.specs.Exact.{largest_heating, FactorDistance}
@@ -19,10 +19,9 @@ use Rattle.cycle_rules.specs.declared.FactorAnswer.TheVariants.{Factor, Refused}
 abbrev pub most_amperes : ℕ
 most_amperes = 4000
 
--- the first hour above 4,000 A, counted from k; past the last where there is none
-abbrev pub first_above : ℕ → List ℕ → ℕ
-first_above k [] = k
-first_above k (x ∷ hours) = cond (ltb most_amperes x) k (first_above (suc k) hours)
+-- the first hour above 4,000 A, counted from 0
+abbrev pub first_above : List ℕ → Option ℕ
+first_above hours = position (λ x. nat_lt most_amperes x) hours
 
 -- "all hours 0"
 abbrev pub all_zero : List ℕ → Bool
@@ -30,15 +29,20 @@ all_zero [] = true
 all_zero (x ∷ hours) = eqb x 0 && all_zero hours
 
 abbrev pub refused10 : ℕ → Refusal
-refused10 hour = record { number = 10; place = Hour hour }
+refused10 hour = record { number = 10; place = P.Hour hour }
 
 abbrev pub refused11 : Refusal
-refused11 = record { number = 11; place = None }
+refused11 = record { number = 11; place = P.None }
+
+-- what follows where no hour is above
+abbrev pub after_hours : Option ℕ → FactorAnswer → FactorAnswer
+after_hours (Some hour) answer = Refused (refused10 hour)
+after_hours None answer = answer
 
 -- 10, 11 and the factor, from the shares at whole hours
 unfoldable pub factor_from : (ℕ → Bounds) → List ℕ → FactorAnswer
 factor_from pairs hours =
-    cond (ltb (first_above 0 hours) day_hours) (Refused (refused10 (first_above 0 hours)))
+    after_hours (first_above hours)
     (cond (all_zero hours) (Refused refused11)
     (Factor (largest_factor (heating_sum pairs hours (reference_hour pairs hours)))))
 

@@ -10,8 +10,8 @@ ghost use Rattle.emergency_rules.specs.Answer.{stated_current, CurrentSaid};
 
 use cable::Cable;
 pub use emergency_rules::CurrentAnswer;
-use refusals::Parts;
-use sheet::TrenchCheck;
+use refusals::{Parts, Refusal};
+use sheet::Trench;
 
 // The current that a cable may carry for `minutes` after a preload of h percent of its rated current, its rise staying within r percent of the
 // rated one: the largest whole number of amperes up to 10,000 that the high share certifies.
@@ -33,21 +33,21 @@ pub fn current_in_sheet(sheet: &[u8], h: u32, r: u32, minutes: u32) -> CurrentAn
 }
 
 // The rated current of what is given; where that is refused there is none.
-fn rated_of(given: TrenchCheck) -> u32
+fn rated_of(given: Result<Trench, Refusal>) -> u32
     ensures { result ≡ rated_of given }
 {
     match given {
-        TrenchCheck::Accepted(trench) => trench.cable.rated,
-        TrenchCheck::Refused(_) => 0,
+        Ok(trench) => trench.cable.rated,
+        Err(_) => 0,
     }
 }
 
-// What an answer states.
+// What an answer states. No From, which would have to stand beside the answer's type, in a crate that has definitions alone.
 pub fn parts(answer: CurrentAnswer) -> Parts
     ensures { result ≡ parts_of (stated_current answer) }
 {
     match answer {
-        CurrentAnswer::Current(amperes) => refusals::of_value(amperes),
-        CurrentAnswer::Refused(refusal) => refusals::of_refusal(refusal),
+        CurrentAnswer::Current(amperes) => Parts::from(amperes),
+        CurrentAnswer::Refused(refusal) => Parts::from(refusal),
     }
 }

@@ -1,66 +1,70 @@
 // What a refusal says: its condition, as document 01's table ('When the desk is told no') and document 02's notes word it, and what its place is.
+use crate::say;
 use std::io;
-use std::io::{Error, Print};
+use std::io::Print;
 
 // The condition of a number.
 pub fn refusal(rt: &HostRuntime, number: u32) {
-    if let Err(error) = condition(rt, number) {
-        lost(rt, error);
-    }
+    explain(rt, number, None);
 }
 
 // The condition of a number, and its place.
 pub fn refusal_at(rt: &HostRuntime, number: u32, place: u32) {
-    if let Err(error) = condition_and_place(rt, number, place) {
-        lost(rt, error);
+    explain(rt, number, Some(place));
+}
+
+fn explain(rt: &HostRuntime, number: u32, place: Option<u32>) {
+    let Some(condition) = condition(number) else {
+        say::complaint(rt, b"rating: no refusal has this number\n");
+        return;
+    };
+    if let Err(error) = explained(rt, condition, number, place) {
+        report::fail(rt, b"rating: the explanation cannot be written", error);
     }
 }
 
-fn condition_and_place(rt: &HostRuntime, number: u32, place: u32) -> io::Result<()> {
-    condition(rt, number)?;
-    place_of(rt, number, place)
-}
+// Each of the following that hands back an `io::Result` says whether what it has to say was written, or why not. A complaint counts as written: there is
+// nowhere else to tell it.
 
-fn lost(rt: &HostRuntime, error: Error) {
-    report::fail(rt, b"rating: the explanation cannot be written", error);
+fn explained(
+    rt: &HostRuntime,
+    condition: &[u8],
+    number: u32,
+    place: Option<u32>,
+) -> io::Result<()> {
+    out(rt, condition)?;
+    match place {
+        Some(place) => place_of(rt, number, place),
+        None => Ok(()),
+    }
 }
-
-// Each of the following says whether what it has to say was written, or why not. A complaint counts as written: there is nowhere else to tell it.
 
 fn out(rt: &HostRuntime, text: &[u8]) -> io::Result<()> {
     rt.stdout().write_all(text)
 }
 
-fn told(rt: &HostRuntime, text: &[u8]) -> io::Result<()> {
-    let _ = rt.stderr().write_all(text);
-    Ok(())
-}
-
-fn condition(rt: &HostRuntime, number: u32) -> io::Result<()> {
+// The condition, or none where no refusal has the number.
+fn condition(number: u32) -> Option<&'static [u8]> {
     match number {
-        1 => out(rt, b"length is neither 36 + 6n nor 38 + 6n, n 0 to 48\n"),
-        2 => out(rt, b"field outside its range, first such\n"),
-        3 => out(rt, b"slow rate above fast\n"),
-        4 => out(rt, b"starting current above 4,000\n"),
-        5 => out(rt, b"link above n\n"),
-        6 => out(rt, b"record's minutes out of range\n"),
-        7 => out(rt, b"record's amperes above 4,000\n"),
-        8 => out(rt, b"minutes not below the record before\n"),
-        9 => out(rt, b"minutes asked outside 1 to 2,880\n"),
-        10 => out(rt, b"hour above 4,000 A, first such\n"),
-        11 => out(rt, b"all hours 0\n"),
-        12 => out(rt, b"h outside 0 to 200, or r outside 1 to 200\n"),
-        13 => out(rt, b"h\xc2\xb2 above 100\xc2\xb7r\n"),
-        14 => out(
-            rt,
-            b"neighbour's link above n or, unless 0, not above the record holding it\n",
-        ),
-        15 => out(
-            rt,
-            b"neighbour's offset beyond 3,000 mm either way, or depth outside 300 to 5,000\n",
-        ),
-        16 => out(rt, b"neighbour's c below d\n"),
-        _ => told(rt, b"rating: no refusal has this number\n"),
+        1 => Some(b"length is neither 36 + 6n nor 38 + 6n, n 0 to 48\n"),
+        2 => Some(b"field outside its range, first such\n"),
+        3 => Some(b"slow rate above fast\n"),
+        4 => Some(b"starting current above 4,000\n"),
+        5 => Some(b"link above n\n"),
+        6 => Some(b"record's minutes out of range\n"),
+        7 => Some(b"record's amperes above 4,000\n"),
+        8 => Some(b"minutes not below the record before\n"),
+        9 => Some(b"minutes asked outside 1 to 2,880\n"),
+        10 => Some(b"hour above 4,000 A, first such\n"),
+        11 => Some(b"all hours 0\n"),
+        12 => Some(b"h outside 0 to 200, or r outside 1 to 200\n"),
+        13 => Some(b"h\xc2\xb2 above 100\xc2\xb7r\n"),
+        14 => Some(b"neighbour's link above n or, unless 0, not above the record holding it\n"),
+        15 => {
+            Some(b"neighbour's offset beyond 3,000 mm either way, or depth outside 300 to 5,000\n")
+        }
+        16 => Some(b"neighbour's c below d\n"),
+        _ => None,
     }
 }
 
@@ -89,12 +93,14 @@ fn place_of(rt: &HostRuntime, number: u32, place: u32) -> io::Result<()> {
             place,
             b": its distance from the cable's axis, not below the cable's diameter\n",
         ),
-        _ => none(rt, number, place),
+        _ if place == 0 => out(rt, b"no place is named\n"),
+        _ => no_such_place(rt),
     }
 }
 
 fn no_such_place(rt: &HostRuntime) -> io::Result<()> {
-    told(rt, b"rating: this refusal has no such place\n")
+    say::complaint(rt, b"rating: this refusal has no such place\n");
+    Ok(())
 }
 
 // The fields and ranges of document 01's table 'The cable'.
@@ -122,24 +128,24 @@ fn field(rt: &HostRuntime, place: u32) -> io::Result<()> {
 }
 
 fn link(rt: &HostRuntime, place: u32, header: &[u8]) -> io::Result<()> {
-    if place == 0 {
-        return out(rt, header);
+    match place {
+        0 => out(rt, header),
+        _ => record(rt, place, b": its next link\n"),
     }
-    record(rt, place, b": its next link\n")
 }
 
 fn record(rt: &HostRuntime, place: u32, what: &[u8]) -> io::Result<()> {
-    if place == 0 || 48 < place {
-        return no_such_place(rt);
+    match place {
+        1..=48 => numbered(rt, b"record ", place, what),
+        _ => no_such_place(rt),
     }
-    numbered(rt, b"record ", place, what)
 }
 
 fn hour(rt: &HostRuntime, place: u32) -> io::Result<()> {
-    if 23 < place {
-        return no_such_place(rt);
+    match place {
+        0..=23 => numbered(rt, b"hour ", place, b": its amperes, 0 to 4,000\n"),
+        _ => no_such_place(rt),
     }
-    numbered(rt, b"hour ", place, b": its amperes, 0 to 4,000\n")
 }
 
 fn input(rt: &HostRuntime, place: u32) -> io::Result<()> {
@@ -153,19 +159,8 @@ fn input(rt: &HostRuntime, place: u32) -> io::Result<()> {
     }
 }
 
-// A number that is no refusal's has been told so before.
-fn none(rt: &HostRuntime, number: u32, place: u32) -> io::Result<()> {
-    if number == 0 || 16 < number {
-        return Ok(());
-    }
-    if place == 0 {
-        return out(rt, b"no place is named\n");
-    }
-    no_such_place(rt)
-}
-
 fn numbered(rt: &HostRuntime, kind: &[u8], number: u32, what: &[u8]) -> io::Result<()> {
     out(rt, kind)?;
-    rt.stdout().print(number as u64)?;
+    rt.stdout().print(u64::from(number))?;
     out(rt, what)
 }

@@ -7,9 +7,9 @@ ghost use Rattle.sheet_rules.specs.Layout.{short_header, header_length, record_c
 ghost use Rattle.sheet_rules.specs.Header.{field_of, cable_of, starting_current, first_link, second_link};
 ghost use Rattle.sheet_rules.specs.Promises.{HeaderSaid};
 
-use cable::{Cable, CableCheck};
+use cable::Cable;
 use refusals::{Place, Refusal};
-use sheet_rules::{Header, HeaderCheck};
+use sheet_rules::Header;
 
 // In bytes.
 const SHORT_HEADER: usize = 36;
@@ -29,19 +29,10 @@ pub fn number_at(sheet: &[u8], at: usize, width: usize) -> u32
     ensures { result ≡ big_endian sheet.now at width }
 {
     let mut number: u32 = 0;
-    let mut i: usize = 0;
-    while i < width {
-        number = number * 256 + of_byte(sheet[at + i]);
-        i += 1;
+    for byte in &sheet[at..at + width] {
+        number = number * 256 + u32::from(*byte);
     }
     number
-}
-
-// In a call of its own, so that its range is known.
-fn of_byte(byte: u8) -> u32
-    ensures { result ≡ byte }
-{
-    byte as u32
 }
 
 // How long the header of a sheet of `size` bytes is: a second link stands in a long one.
@@ -76,7 +67,8 @@ pub fn wrong_length(size: usize) -> bool
     MOST_RECORDS < count || size != header + RECORD_LENGTH * count
 }
 
-// Field `number` of the table, counted from 1.
+// Field `number` of the table, counted from 1. This and the three functions below ask that the header's bytes are there: a struct with that fact would have one
+// field, and two of the four are named in docs/CONTRACTS.md as functions on bytes.
 fn field(sheet: &[u8], number: usize) -> u32
     requires { (1 ≤ number) × (number ≤ 8) × (short_header ≤ length sheet.now) }
     ensures { result ≡ field_of sheet.now number }
@@ -127,30 +119,26 @@ fn second_link(sheet: &[u8]) -> usize
 }
 
 // The header of a sheet of any length, or its first refusal.
-pub fn check_header(sheet: &[u8]) -> HeaderCheck
+pub fn check_header(sheet: &[u8]) -> Result<Header, Refusal>
     ensures { HeaderSaid sheet.now result }
 {
     if wrong_length(sheet.len()) {
-        return HeaderCheck::Refused(Refusal {
+        return Err(Refusal {
             number: 1,
             place: Place::None,
         });
     }
-    let checked = cable::check_cable(cable_of(sheet));
-    let cable = match checked {
-        CableCheck::Accepted(accepted) => accepted,
-        CableCheck::Refused(refusal) => return HeaderCheck::Refused(refusal),
-    };
+    let cable = cable::check_cable(cable_of(sheet))?;
     let start = starting_current(sheet);
     if MOST_START < start {
-        return HeaderCheck::Refused(Refusal {
+        return Err(Refusal {
             number: 4,
             place: Place::None,
         });
     }
     let link = first_link(sheet);
     let neighbours = second_link(sheet);
-    HeaderCheck::Accepted(Header {
+    Ok(Header {
         cable,
         start,
         link,

@@ -1,17 +1,19 @@
 // The rise of a cable after a load history: document 01, 'The load sheet'; document 02, note 2.
 #![tactic(auto)]
 
-ghost use Rattle.std.specs.Prelude.{◌≡◌};
+ghost use Rattle.std.specs.Prelude.{◌≡◌, ℕ, Option};
 ghost use Rattle.refusals.specs.Apart.{parts_of};
+ghost use Rattle.sheet_rules.specs.Promises.{RecordReadAs};
+ghost use Rattle.sheet_rules.specs.declared.LoadRecord.{LoadRecord};
 ghost use Rattle.history_rules.specs.Answer.{stated_rise, history_of, RiseSaid};
 ghost use Rattle.history_rules.specs.Walk.{Begins};
 
 mod by_reader;
 
 pub use by_reader::rise_by_reader;
-pub use history_rules::{Reached, RiseAnswer, Turn};
+pub use history_rules::{Reached, RiseAnswer};
 use refusals::Parts;
-use sheet::{HeaderCheck, LoadRecord, Trench};
+use sheet::{LoadRecord, Trench};
 
 // The rise now, from the bytes of a sheet of any length. The sheet is only read.
 pub fn rise(sheet: &[u8]) -> RiseAnswer
@@ -19,18 +21,30 @@ pub fn rise(sheet: &[u8]) -> RiseAnswer
 {
     let checked = sheet::check_sheet(sheet);
     match checked {
-        HeaderCheck::Refused(refusal) => RiseAnswer::Refused(refusal),
-        HeaderCheck::Accepted(header) => {
+        Err(refusal) => RiseAnswer::Refused(refusal),
+        Ok(header) => {
             let trench = sheet::trench_of(header);
             let first = sheet::before_first(header.start, header.link);
-            chain_rise(sheet, trench, first)
+            walked(
+                sheet,
+                trench,
+                first,
+                |number| sheet::record_at(sheet, number),
+            )
         }
     }
 }
 
-// The walk along the chain of records, from the header's own on. Minutes fall from record to record.
-fn chain_rise(sheet: &[u8], trench: Trench, first: LoadRecord) -> RiseAnswer
-    requires { Begins sheet.now trench first }
+// The walk along the chain of records, from the header's own on, each read by its number. Minutes fall from record to record.
+fn walked<F: Fn(usize) -> Option<LoadRecord>>(
+    sheet: &[u8],
+    trench: Trench,
+    first: LoadRecord,
+    read: F,
+) -> RiseAnswer
+    requires begins { Begins sheet.now trench first }
+    requires callable { F.IsAlwaysCallable read }
+    requires reads { (number : ℕ) (r : Option LoadRecord) → F.post read number r → RecordReadAs sheet.now number r }
     ensures { RiseSaid (history_of sheet.now) result }
 {
     let mut at = heat::begin(first);
@@ -39,20 +53,20 @@ fn chain_rise(sheet: &[u8], trench: Trench, first: LoadRecord) -> RiseAnswer
         if last.next == 0 {
             break RiseAnswer::Rise(heat::end(trench.cable, at));
         }
-        let turn = walk::step(sheet, trench, at, sheet::record_at(sheet, last.next));
+        let turn = walk::step(sheet, trench, at, read(last.next));
         match turn {
-            Turn::Refused(refusal) => break RiseAnswer::Refused(refusal),
-            Turn::Next(next) => at = next,
+            Err(refusal) => break RiseAnswer::Refused(refusal),
+            Ok(next) => at = next,
         }
     }
 }
 
-// What an answer states.
+// What an answer states. No From, which would have to stand beside the answer's type, in a crate that has definitions alone.
 pub fn parts(answer: RiseAnswer) -> Parts
     ensures { result ≡ parts_of (stated_rise answer) }
 {
     match answer {
-        RiseAnswer::Rise(pair) => refusals::of_pair(pair),
-        RiseAnswer::Refused(refusal) => refusals::of_refusal(refusal),
+        RiseAnswer::Rise(pair) => Parts::from(pair),
+        RiseAnswer::Refused(refusal) => Parts::from(refusal),
     }
 }

@@ -1,5 +1,6 @@
 -- What holds of the walk at each record of the chain: what a turn asks, and that the answer of the rest is the sheet's. Both walks, the plain one and the
 -- reader's, have it as their invariant.
+use Rattle.std.proofs.Common.{Option, Result, Ok, Err}
 use mathlib.Core.Path.{◌≡◌, refl, sym, ap, subst, ◌∙◌}
 use mathlib.Core.List.{List}
 use Prim.Native.Nat.{ℕ, ◌+◌, ◌*◌, ◌≤◌, ◌<◌}
@@ -22,9 +23,6 @@ use Rattle.sheet_rules.specs.Sheet.{group_in}
 use Rattle.sheet_rules.specs.Records.{most_minutes, before_first, record_at, checked_record}
 use Rattle.sheet_rules.specs.declared.Trench.{Trench}
 use Rattle.sheet_rules.specs.declared.LoadRecord.{LoadRecord}
-use Rattle.sheet_rules.specs.declared.RecordRead.{RecordRead}
-use Rattle.sheet_rules.specs.declared.RecordCheck.{RecordCheck}
-use Rattle.sheet_rules.specs.declared.RecordCheck.TheVariants as K
 use Rattle.sheet_rules.proofs.HeaderChecks.{accepted_header}
 use Rattle.sheet_rules.proofs.SheetChecks.{accepted_sheet, trench_group, trench_laid}
 use Rattle.sheet_rules.proofs.RecordChecks.{accepted_record}
@@ -33,8 +31,6 @@ use Rattle.history_rules.specs.Answer.{history_of, rise_answer}
 use Rattle.history_rules.specs.Walk.{begin_at, next_at, after_read, turn_of, end_of, step_most, Turning, Ending, StepTo, Begins}
 use Rattle.history_rules.specs.declared.Reached.{Reached}
 use Rattle.history_rules.specs.declared.RiseAnswer.TheVariants.{Rise, Refused}
-use Rattle.history_rules.specs.declared.Turn.{Turn}
-use Rattle.history_rules.specs.declared.Turn.TheVariants as T
 use Rattle.history_rules.proofs.Walk.{rest, rest_ends, rest_refused, rest_goes_on, rest_of_all}
 use Rattle.history_rules.proofs.Sizes.{start_sized, step_sized}
 
@@ -80,15 +76,15 @@ divided_room t e =
 
 -- ---- the ways out of a turn
 
-pub read_refused : (pairs : ℕ → Bounds) (at : Reached) (read : RecordRead) {f : Refusal} → checked_record at.last read ≡ K.Refused f → T.Refused f ≡ turn_of pairs at read
+pub read_refused : (pairs : ℕ → Bounds) (at : Reached) (read : Option LoadRecord) {f : Refusal} → checked_record at.last read ≡ Err f → Err f ≡ turn_of pairs at read
 unfolding turn_of
 read_refused pairs at read e = rw (e, turn_of)
 
-pub read_accepted : (pairs : ℕ → Bounds) (at : Reached) (read : RecordRead) {n : LoadRecord} → checked_record at.last read ≡ K.Accepted n → T.Next (next_at pairs at n) ≡ turn_of pairs at read
+pub read_accepted : (pairs : ℕ → Bounds) (at : Reached) (read : Option LoadRecord) {n : LoadRecord} → checked_record at.last read ≡ Ok n → Ok (next_at pairs at n) ≡ turn_of pairs at read
 unfolding turn_of
 read_accepted pairs at read e = rw (e, turn_of)
 
-pub step_to : (before : LoadRecord) (read : RecordRead) {n : LoadRecord} → checked_record before read ≡ K.Accepted n → StepTo n
+pub step_to : (before : LoadRecord) (read : Option LoadRecord) {n : LoadRecord} → checked_record before read ≡ Ok n → StepTo n
 step_to before read e = let a = accepted_record before read e in record { minutes_within = a.minutes_within; amperes_most = a.amperes_most }
 
 -- ---- along the chain
@@ -129,20 +125,20 @@ module _ {s : List ℕ} {t : Trench} {at : Reached} (a : AtRecord s t at) where
   chain_ended z e = ap Rise e ∙ rest_ends (share_pair (group_in s t)) t.cable.rated s at.last at.sum z ∙ a.answer
 
   module _ (z : at.last.next ≡ 0 → ⊥) where
-    abbrev read_here : RecordRead
+    abbrev read_here : Option LoadRecord
     read_here = record_at s at.last.next
 
     -- where the turn leads: on to a later record, or out with the sheet's refusal
-    refused_by : (c : RecordCheck) {f : Refusal} → checked_record at.last read_here ≡ c → after_read c (next_at (share_pair (group_in s t)) at) ≡ T.Refused f → Refused f ≡ rise_answer (history_of s)
-    refused_by (K.Accepted n) e p = let o : ◌≡◌ {A = ℕ} 0 1 = cc in absurd (omega arith)
-    refused_by (K.Refused f) e p = let same : T.Refused f ≡ T.Refused _ = p in ap Refused (cc) ∙ rest_refused (share_pair (group_in s t)) t.cable.rated s at.last at.sum z e ∙ a.answer
+    refused_by : (c : Result LoadRecord Refusal) {f : Refusal} → checked_record at.last read_here ≡ c → after_read c (next_at (share_pair (group_in s t)) at) ≡ Err f → Refused f ≡ rise_answer (history_of s)
+    refused_by (Ok n) e p = let o : ◌≡◌ {A = ℕ} 0 1 = cc in absurd (omega arith)
+    refused_by (Err f) e p = let same : Err f ≡ Err _ = p in ap Refused (cc) ∙ rest_refused (share_pair (group_in s t)) t.cable.rated s at.last at.sum z e ∙ a.answer
 
     -- what was read is what stands at the link
-    pub turn_refused : {read : RecordRead} {turn : Turn} {f : Refusal} → read ≡ read_here → turn ≡ turn_of (share_pair (group_in s t)) at read → turn ≡ T.Refused f → Refused f ≡ rise_answer (history_of s)
+    pub turn_refused : {read : Option LoadRecord} {turn : Result Reached Refusal} {f : Refusal} → read ≡ read_here → turn ≡ turn_of (share_pair (group_in s t)) at read → turn ≡ Err f → Refused f ≡ rise_answer (history_of s)
     unfolding turn_of
     turn_refused er et e = refused_by (checked_record at.last read_here) refl (sym (ap (turn_of (share_pair (group_in s t)) at) er) ∙ sym et ∙ e)
 
-    at_next : {n : LoadRecord} → checked_record at.last read_here ≡ K.Accepted n → (n.minutes < at.last.minutes) × AtRecord s t (next_at (share_pair (group_in s t)) at n)
+    at_next : {n : LoadRecord} → checked_record at.last read_here ≡ Ok n → (n.minutes < at.last.minutes) × AtRecord s t (next_at (share_pair (group_in s t)) at n)
     at_next {n} e =
         let r = accepted_record at.last read_here e in
         let u = a.turning in (
@@ -159,10 +155,10 @@ module _ {s : List ℕ} {t : Trench} {at : Reached} (a : AtRecord s t at) where
           },
         )
 
-    next_by : (c : RecordCheck) {n : Reached} → checked_record at.last read_here ≡ c → after_read c (next_at (share_pair (group_in s t)) at) ≡ T.Next n → (n.last.minutes < at.last.minutes) × AtRecord s t n
-    next_by (K.Refused f) e p = let o : ◌≡◌ {A = ℕ} 0 1 = cc in absurd (omega arith)
-    next_by (K.Accepted r) {n} e p = let same : next_at (share_pair (group_in s t)) at r ≡ n = cc in subst (λ (m : Reached). (m.last.minutes < at.last.minutes) × AtRecord s t m) same (at_next e)
+    next_by : (c : Result LoadRecord Refusal) {n : Reached} → checked_record at.last read_here ≡ c → after_read c (next_at (share_pair (group_in s t)) at) ≡ Ok n → (n.last.minutes < at.last.minutes) × AtRecord s t n
+    next_by (Err f) e p = let o : ◌≡◌ {A = ℕ} 0 1 = cc in absurd (omega arith)
+    next_by (Ok r) {n} e p = let same : next_at (share_pair (group_in s t)) at r ≡ n = cc in subst (λ (m : Reached). (m.last.minutes < at.last.minutes) × AtRecord s t m) same (at_next e)
 
-    pub turn_next : {read : RecordRead} {turn : Turn} {n : Reached} → read ≡ read_here → turn ≡ turn_of (share_pair (group_in s t)) at read → turn ≡ T.Next n → (n.last.minutes < at.last.minutes) × AtRecord s t n
+    pub turn_next : {read : Option LoadRecord} {turn : Result Reached Refusal} {n : Reached} → read ≡ read_here → turn ≡ turn_of (share_pair (group_in s t)) at read → turn ≡ Ok n → (n.last.minutes < at.last.minutes) × AtRecord s t n
     unfolding turn_of
     turn_next er et e = next_by (checked_record at.last read_here) refl (sym (ap (turn_of (share_pair (group_in s t)) at) er) ∙ sym et ∙ e)

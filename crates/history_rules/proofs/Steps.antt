@@ -1,4 +1,5 @@
 -- What the checks of a chain say of its steps: the minutes of every step are 1 to 2,880.
+use Rattle.std.proofs.Common.{Ok}
 use mathlib.Core.Path.{◌≡◌}
 use mathlib.Core.List.{List, [], ◌∷◌, map}
 use Prim.Native.Nat.{ℕ, suc, ◌≤◌}
@@ -8,7 +9,6 @@ use Rattle.sheet_rules.specs.Walk as W
 use Rattle.sheet_rules.specs.Walk.{Walk, reached, records_in}
 use Rattle.sheet_rules.specs.Chain.{Step, step_of, as_chain, load_walk, chain_of}
 use Rattle.sheet_rules.specs.declared.LoadRecord.{LoadRecord}
-use Rattle.sheet_rules.specs.declared.RecordCheck.TheVariants.{Accepted}
 use Rattle.sheet_rules.proofs.RecordChecks.{accepted_record}
 use Rattle.sheet_rules.proofs.Turns as T
 use Rattle.sheet_rules.proofs.Turns.{AtRecords, at_records}
@@ -28,7 +28,7 @@ module _ (P : ℕ → Type 0) (within : (m : ℕ) → 1 ≤ m → m ≤ most_min
   of_walk (reached rs) ps = of_records rs ps
   of_walk (W.refused f) ps = none
 
-  each : (s : List ℕ) (r n : LoadRecord) → checked_record r (record_at s r.next) ≡ Accepted n → P n.minutes
+  each : (s : List ℕ) (r n : LoadRecord) → checked_record r (record_at s r.next) ≡ Ok n → P n.minutes
   each s r n e = let w = passed_within 1 most_minutes n.minutes (accepted_record r (record_at s r.next) e).minutes_within in within n.minutes w.0 w.1
 
   pub chain_minutes : (s : List ℕ) → AtSteps P (steps_of (chain_of s))

@@ -1,4 +1,5 @@
 -- The walk along a chain: what a turn adds to the sum, the answer of the whole sheet is that of the rest, at every record.
+use Rattle.std.proofs.Common.{Some, None, Ok, Err}
 use mathlib.Core.Path.{◌≡◌, refl, sym, ap, ◌∙◌}
 use mathlib.Core.List.{List, ◌∷◌}
 use Prim.Native.Nat.{ℕ, ◌*◌}
@@ -14,11 +15,8 @@ use Rattle.sheet_rules.specs.Promises.{TrenchSaid}
 use Rattle.sheet_rules.specs.Records.{before_first, record_at, checked_record}
 use Rattle.sheet_rules.specs.Chain.{Step, Chain, steps, refused, step_of, as_chain, load_walk}
 use Rattle.sheet_rules.specs.declared.Header.{Header}
-use Rattle.sheet_rules.specs.declared.HeaderCheck.TheVariants as H
 use Rattle.sheet_rules.specs.declared.Trench.{Trench}
 use Rattle.sheet_rules.specs.declared.LoadRecord.{LoadRecord}
-use Rattle.sheet_rules.specs.declared.RecordRead.TheVariants.{Held, Missing}
-use Rattle.sheet_rules.specs.declared.RecordCheck.TheVariants as K
 use Rattle.sheet_rules.proofs.HeaderChecks.{accepted_header}
 use Rattle.sheet_rules.proofs.SheetChecks.{accepted_sheet}
 use Rattle.sheet_rules.proofs.RecordChecks.{header_held}
@@ -66,11 +64,11 @@ module _ (pairs : ℕ → Bounds) (rated : ℕ) where
         ∙ ap (λ c. after_chain c (rise_with sum r.amperes)) (sym (chain_ends s r z))
 
     module _ (z : r.next ≡ 0 → ⊥) where
-      pub rest_refused : {f : Refusal} → checked_record r (record_at s r.next) ≡ K.Refused f → Refused f ≡ rest s r sum
+      pub rest_refused : {f : Refusal} → checked_record r (record_at s r.next) ≡ Err f → Refused f ≡ rest s r sum
       unfolding rest
       rest_refused e = ap (λ c. after_chain c (rise_with sum r.amperes)) (sym (chain_refused s r z e))
 
-      pub rest_goes_on : {n : LoadRecord} → checked_record r (record_at s r.next) ≡ K.Accepted n → rest s n (add_b sum (step_heat (pairs n.minutes) r.amperes n.amperes)) ≡ rest s r sum
+      pub rest_goes_on : {n : LoadRecord} → checked_record r (record_at s r.next) ≡ Ok n → rest s n (add_b sum (step_heat (pairs n.minutes) r.amperes n.amperes)) ≡ rest s r sum
       unfolding rest rise_with sum_of
       rest_goes_on {n} e =
           same_rise (as_chain (load_walk s n)) _ _
@@ -81,12 +79,12 @@ module _ (pairs : ℕ → Bounds) (rated : ℕ) where
 -- ---- the whole sheet
 
 module _ (s : List ℕ) where
-  pub sheet_refused : {f : Refusal} → checked_sheet s ≡ H.Refused f → Refused f ≡ rise_answer (history_of s)
+  pub sheet_refused : {f : Refusal} → checked_sheet s ≡ Err f → Refused f ≡ rise_answer (history_of s)
   unfolding rise_answer given_sheet
   sheet_refused e = rw (e, rise_answer, given_sheet)
 
   -- the walk begins with the header's own record and its current's part
-  pub rest_of_all : {h : Header} → checked_sheet s ≡ H.Accepted h → rest (share_pair (group_of s)) (group_of s).cable.rated s (before_first h.start h.link) (start_heat h.start) ≡ rise_answer (history_of s)
+  pub rest_of_all : {h : Header} → checked_sheet s ≡ Ok h → rest (share_pair (group_of s)) (group_of s).cable.rated s (before_first h.start h.link) (start_heat h.start) ≡ rise_answer (history_of s)
   unfolding rise_answer given_sheet rest rise_with rise_of
   rest_of_all {h} e =
       let is = (accepted_sheet s e).is in
@@ -94,18 +92,18 @@ module _ (s : List ℕ) where
 
 -- ---- where a walk begins
 
-module _ (s : List ℕ) {h : Header} (e : checked_sheet s ≡ H.Accepted h) {t : Trench} (d : TrenchSaid h t) where
+module _ (s : List ℕ) {h : Header} (e : checked_sheet s ≡ Ok h) {t : Trench} (d : TrenchSaid h t) where
   pub begins_plain : {first : LoadRecord} → first ≡ before_first h.start h.link → Begins s t first
   begins_plain f = record { header = h; sheet = e; trench = d; record_0 = f }
 
   -- the header is held as record 0
-  header_read : record_at s 0 ≡ Held (before_first h.start h.link)
+  header_read : record_at s 0 ≡ Some (before_first h.start h.link)
   header_read =
       let a = accepted_sheet s e in
-      sym (header_held s 0 (accepted_header s a.header).length_right (omega arith) refl) ∙ ap (λ (k : Header). Held (before_first k.start k.link)) (sym a.is)
+      sym (header_held s 0 (accepted_header s a.header).length_right (omega arith) refl) ∙ ap (λ (k : Header). Some (before_first k.start k.link)) (sym a.is)
 
-  pub begins_read : {first : LoadRecord} → record_at s 0 ≡ Held first → Begins s t first
+  pub begins_read : {first : LoadRecord} → record_at s 0 ≡ Some first → Begins s t first
   begins_read {first} r = let f : first ≡ before_first h.start h.link = cc header_read in begins_plain f
 
-  pub header_not_missing : record_at s 0 ≡ Missing → ⊥
+  pub header_not_missing : record_at s 0 ≡ None → ⊥
   header_not_missing r = let z : ◌≡◌ {A = ℕ} 0 1 = cc header_read in omega arith

@@ -1,5 +1,5 @@
 -- The walk along the chain, turn by turn: what `rise` and `rise_by_reader` have in common.
-use Rattle.std.specs.Prelude.{◌≡◌, false, List, ℕ, ◌+◌, ◌*◌, ◌-◌, ◌≤◌}
+use Rattle.std.specs.Prelude.{◌≡◌, false, List, ℕ, ◌+◌, ◌*◌, ◌-◌, ◌≤◌, Option, Result, Ok, Err}
 use Rattle.bounds.specs.Operations.{add_b, divided_b}
 use Rattle.bounds.specs.Promises.{Sized}
 use Rattle.bounds.specs.declared.Bounds.{Bounds}
@@ -13,14 +13,9 @@ use Rattle.sheet_rules.specs.Promises.{TrenchSaid}
 use Rattle.sheet_rules.specs.declared.Header.{Header}
 use Rattle.sheet_rules.specs.declared.Trench.{Trench}
 use Rattle.sheet_rules.specs.declared.LoadRecord.{LoadRecord}
-use Rattle.sheet_rules.specs.declared.RecordRead.{RecordRead}
-use Rattle.sheet_rules.specs.declared.RecordCheck.{RecordCheck}
-use Rattle.sheet_rules.specs.declared.RecordCheck.TheVariants as K
-use Rattle.sheet_rules.specs.declared.HeaderCheck.TheVariants as H
 use Rattle.history_rules.specs.Rise.{million, step_heat, start_heat}
 use Rattle.history_rules.specs.declared.Reached.{Reached}
-use Rattle.history_rules.specs.declared.Turn.{Turn}
-use Rattle.history_rules.specs.declared.Turn.TheVariants.{Next, Refused}
+use Rattle.refusals.specs.declared.Refusal.{Refusal}
 
 -- "The cable carried the starting current for ever before the first step"
 abbrev pub begin_at : LoadRecord → Reached
@@ -30,12 +25,12 @@ begin_at first = record { last = first; sum = start_heat first.amperes }
 abbrev pub next_at : (ℕ → Bounds) → Reached → LoadRecord → Reached
 next_at pairs at next = record { last = next; sum = add_b at.sum (step_heat (pairs next.minutes) at.last.amperes next.amperes) }
 
-abbrev pub after_read : RecordCheck → (LoadRecord → Reached) → Turn
-after_read (K.Accepted r) next = Next (next r)
-after_read (K.Refused f) next = Refused f
+abbrev pub after_read : Result LoadRecord Refusal → (LoadRecord → Reached) → Result Reached Refusal
+after_read (Ok r) next = Ok (next r)
+after_read (Err f) next = Err f
 
 -- "for each record in turn 5 for the link that leads to it, 6, 7, 8", and its step
-unfoldable pub turn_of : (ℕ → Bounds) → Reached → RecordRead → Turn
+unfoldable pub turn_of : (ℕ → Bounds) → Reached → Option LoadRecord → Result Reached Refusal
 turn_of pairs at read = after_read (checked_record at.last read) (next_at pairs at)
 
 -- "/ rated²"
@@ -72,6 +67,6 @@ pub record StepTo (next : LoadRecord) : Type 0 where
 -- Where a walk begins: what an accepted sheet gives, and the header's own record.
 pub record Begins (s : List ℕ) (t : Trench) (first : LoadRecord) : Type 0 where
   pub header : Header
-  pub sheet : checked_sheet s ≡ H.Accepted header
+  pub sheet : checked_sheet s ≡ Ok header
   pub trench : TrenchSaid header t
   pub record_0 : first ≡ before_first header.start header.link

@@ -14,7 +14,7 @@ mod tables;
 
 use bounds::Bounds;
 use series::{FAR_FROM, ONE};
-use tables::{EXP_HIGH, EXP_LOW, HALF_HIGH, HALF_LOW, UNIT_HIGH, UNIT_LOW};
+use tables::{EXP, HALF, UNIT};
 
 // ln 2, in units of 2^-30.
 const LN_TWO: Bounds = Bounds {
@@ -49,12 +49,13 @@ pub fn logarithm(x: u64, y: u64) -> Bounds
 }
 
 // A row of a table: its low end and its high end.
-fn row(low: u32, high: u32) -> Bounds
-    ensures { result ≡ as_bounds (record { low = low; high = high }) }
+fn row(ends: (u32, u32)) -> Bounds
+    ensures { result ≡ as_bounds (record { low = ends.0; high = ends.1 }) }
 {
+    let (low, high) = ends;
     Bounds {
-        low: numbers::wide(low),
-        high: numbers::wide(high),
+        low: i64::from(low),
+        high: i64::from(high),
     }
 }
 
@@ -63,7 +64,7 @@ fn knot_exp(knot: usize) -> Bounds
     requires { knot < knots }
     ensures { result ≡ as_bounds (knot_exp knot) }
 {
-    row(EXP_LOW[knot], EXP_HIGH[knot])
+    row(EXP[knot])
 }
 
 // The integral of e^(-u)/u from x/diffusion to y/diffusion, one slice, in units of 2^-30. `decay` is e^(-u) at its far end.
@@ -75,12 +76,6 @@ fn heat_slice(x: u64, y: u64, diffusion: u64, decay: Bounds) -> Bounds
     let theta = width * ONE / y;
     let height = decay.scaled_mul(series::series(theta, width * ONE / diffusion), ONE);
     height.scaled_mul(bounds::from_naturals(theta, theta + 1), ONE)
-}
-
-fn greatest(a: u64, b: u64) -> u64
-    ensures { result ≡ max a b }
-{
-    if a < b { b } else { a }
 }
 
 // e^(-u) where a slice below a knot ends: at the knot, y, or at a far end before it. In units of 2^-30.
@@ -99,8 +94,8 @@ fn cut_slice(near: u64, far: u64, x: u64, y: u64, diffusion: u64, knot: usize) -
     requires { BelowKnot x y diffusion knot }
     ensures { result ≡ as_bounds (any_slice (max near x) (min far y) diffusion) }
 {
-    let start = greatest(near, x);
-    let end = numbers::least(far, y);
+    let start = near.max(x);
+    let end = far.min(y);
     if start < end {
         let decay = end_exp(far, y, diffusion, knot);
         heat_slice(start, end, diffusion, decay)
@@ -148,11 +143,7 @@ fn slice_start(near: u64, far: u64, diffusion: u64) -> u64
     ensures { result ≡ slice_start near far diffusion }
 {
     let edge = FAR_FROM * diffusion;
-    if edge < far {
-        greatest(near, edge)
-    } else {
-        far
-    }
+    if edge < far { near.max(edge) } else { far }
 }
 
 // e^(-u) where the far slice begins: at FAR_FROM, the first knot, or at a near end beyond it. In units of 2^-30.
@@ -163,8 +154,7 @@ fn far_exp(near: u64, diffusion: u64) -> Bounds
     if FAR_FROM * diffusion < near {
         return series::exp_neg(near, diffusion);
     }
-    // At a constant place, so that no array is made.
-    row(EXP_LOW[0], EXP_HIGH[0])
+    row(EXP[0])
 }
 
 // The far slice, from 0 to e^(-u) at its near end times the logarithm, in units of 2^-30.
@@ -185,19 +175,20 @@ fn unit_slices(near: u64, far: u64, diffusion: u64, top: u64, first: Bounds) -> 
     requires { Begun near diffusion top first }
     ensures { result ≡ as_bounds (unit_sum near far diffusion top (as_pair first) units) }
 {
-    // A constant array is made where it is read: here, and not at each turn.
-    let low = UNIT_LOW;
-    let high = UNIT_HIGH;
-    let last = greatest(near, diffusion);
+    let last = near.max(diffusion);
     let mut sum = first;
     let mut y = FAR_FROM * diffusion;
-    let mut i = 0;
-    while last < y {
+    for (i, &ends) in UNIT.iter().enumerate() {
+        if y <= last {
+            break;
+        }
         let x = y - diffusion;
-        let all = row(low[i], high[i]);
-        sum = joined(sum, part_slice(near, far, x, y, diffusion, i, all), top);
+        sum = joined(
+            sum,
+            part_slice(near, far, x, y, diffusion, i, row(ends)),
+            top,
+        );
         y = x;
-        i += 1;
     }
     sum
 }
@@ -208,23 +199,29 @@ fn half_slices(near: u64, far: u64, diffusion: u64, top: u64, first: Bounds) -> 
     requires { Begun near diffusion top first }
     ensures { result ≡ as_bounds (half_sum near far diffusion top (as_pair first) halves) }
 {
-    let low = HALF_LOW;
-    let high = HALF_HIGH;
     let mut sum = first;
     let mut start = near;
-    let mut end = numbers::least(far, diffusion);
+    let mut end = far.min(diffusion);
     let mut divisor = diffusion;
-    let mut k = 0;
-    while start < diffusion {
+    for (k, &ends) in HALF.iter().enumerate() {
+        if diffusion <= start {
+            break;
+        }
         start = 2 * start;
         end = 2 * end;
         divisor = 2 * divisor;
-        let all = row(low[k], high[k]);
         let knot = UNITS + k;
-        let part = part_slice(start, end, diffusion, 2 * diffusion, divisor, knot, all);
+        let part = part_slice(
+            start,
+            end,
+            diffusion,
+            2 * diffusion,
+            divisor,
+            knot,
+            row(ends),
+        );
         sum = joined(sum, part, top);
-        end = numbers::least(end, diffusion);
-        k += 1;
+        end = end.min(diffusion);
     }
     sum
 }

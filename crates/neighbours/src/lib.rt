@@ -2,13 +2,14 @@
 #![tactic(auto)]
 
 ghost use Rattle.std.specs.Prelude.{◌≡◌, ◌≤◌, nat_abs};
-ghost use Rattle.exact.specs.Share.{between, source_of};
+ghost use Rattle.exact.specs.Share.{source_of};
 ghost use Rattle.sheet_rules.specs.Neighbours.{signed_of, neighbour_of, most_depth, beside_first};
 ghost use Rattle.sheet_rules.specs.Promises.{InGround, NeighbourSaid};
 
 use cable_rules::Cable;
 use records::refused_at;
-use sheet_rules::{LoadRecord, RecordCheck, RecordRead};
+use refusals::Refusal;
+use sheet_rules::LoadRecord;
 
 // In mm, to either side.
 const MOST_OFFSET: u32 = 3000;
@@ -31,18 +32,10 @@ fn aside(offset: u32) -> u32
     ensures { (result ≡ nat_abs (signed_of offset)) × (result ≤ 32768) }
 {
     if offset < NEGATIVE_FROM {
-        return offset;
+        offset
+    } else {
+        MINUS_ONE.saturating_sub(offset) + 1
     }
-    if offset < MINUS_ONE {
-        return MINUS_ONE - offset + 1;
-    }
-    1
-}
-
-fn difference(a: u32, b: u32) -> u32
-    ensures { result ≡ between a b }
-{
-    if a < b { b - a } else { a - b }
 }
 
 // c² in mm²: the squared distance from a cable at a depth to the axis of a neighbour. Minutes are the offset and amperes the depth: one record may serve both
@@ -51,8 +44,7 @@ pub fn near_of(depth: u32, neighbour: LoadRecord) -> u64
     requires { (depth ≤ 5000) × (neighbour.amperes ≤ most_depth) }
     ensures { result ≡ (source_of depth (neighbour_of neighbour)).near }
 {
-    numbers::square(aside(neighbour.minutes))
-        + numbers::square(difference(depth, neighbour.amperes))
+    numbers::square(aside(neighbour.minutes)) + numbers::square(depth.abs_diff(neighbour.amperes))
 }
 
 // m² in mm²: that to the neighbour's image above ground.
@@ -63,13 +55,18 @@ pub fn image_of(depth: u32, neighbour: LoadRecord) -> u64
     numbers::square(aside(neighbour.minutes)) + numbers::square(depth + neighbour.amperes)
 }
 
-// What was read at the link of the record `before`, or its first refusal.
-pub fn check_neighbour(cable: Cable, before: LoadRecord, read: RecordRead) -> RecordCheck
+// What was read at the link of the record `before`, or its first refusal. `InGround` is asked here and in the two functions of `sheet` that only hand the cable
+// on: a type for it would be made at one place and taken off again here.
+pub fn check_neighbour(
+    cable: Cable,
+    before: LoadRecord,
+    read: Option<LoadRecord>,
+) -> Result<LoadRecord, Refusal>
     requires { InGround cable }
     ensures { NeighbourSaid cable before read result }
 {
     let holder = before.number;
-    let RecordRead::Held(record) = read else {
+    let Some(record) = read else {
         return refused_at(14, holder);
     };
     if record.number <= holder {
@@ -84,7 +81,7 @@ pub fn check_neighbour(cable: Cable, before: LoadRecord, read: RecordRead) -> Re
     if TENTHS * near_of(cable.depth, record) < numbers::square(cable.diameter) {
         return refused_at(16, record.number);
     }
-    RecordCheck::Accepted(record)
+    Ok(record)
 }
 
 // The header as the record before the first neighbour: its number is 0, and it holds the second link.

@@ -1,4 +1,5 @@
 -- The loop over the neighbours: what is summed at one of them, with those that are left, is the group's whole sum.
+use Rattle.std.proofs.Common.{Option, Some, None, Result, Ok}
 use mathlib.Core.Path.{◌≡◌, refl, sym, ap, subst, ◌∙◌}
 use mathlib.Core.List.{List, [], ◌∷◌, map}
 use Prim.Native.Nat.{ℕ, ◌*◌, ◌≤◌, ◌<◌}
@@ -21,15 +22,12 @@ use Rattle.sheet_rules.specs.Walk.{reached, records_in}
 use Rattle.sheet_rules.specs.Neighbours.{neighbour_of, most_depth, checked_neighbour, beside_first, above, neighbour_walk, neighbours_in}
 use Rattle.sheet_rules.specs.Sheet.{group_in, walk_in}
 use Rattle.sheet_rules.specs.declared.LoadRecord.{LoadRecord}
-use Rattle.sheet_rules.specs.declared.RecordRead.{RecordRead}
-use Rattle.sheet_rules.specs.declared.RecordRead.TheVariants.{Held, Missing}
-use Rattle.sheet_rules.specs.declared.RecordCheck.{RecordCheck}
-use Rattle.sheet_rules.specs.declared.RecordCheck.TheVariants as K
 use Rattle.sheet_rules.specs.declared.Trench.{Trench}
 use Rattle.sheet_rules.proofs.Turns.{GoesOn, walk_ends, goes_on}
 use Rattle.sheet_rules.proofs.NeighbourChecks.{accepted_neighbour, accepted_inside, links_rise, few_neighbours}
 use Rattle.share_rules.specs.Pair.{seconds_of}
 use Rattle.pair.specs.Sums.{sums_in, Timed, Summed}
+use Rattle.refusals.specs.declared.Refusal.{Refusal}
 
 -- a cable in use with the neighbours from a record's link on
 abbrev pub group_from : List ℕ → Cable → LoadRecord → Group
@@ -100,10 +98,10 @@ module _ {s : List ℕ} {t : Trench} {seconds : ℕ} (summed : Summed s t second
 -- ---- one turn
 
 module _ {s : List ℕ} {g : Group} {seconds diffusion : ℕ} {sums : Sums} {at : LoadRecord} (a : AtNeighbour s g seconds diffusion sums at) where
-  abbrev check : LoadRecord → RecordRead → RecordCheck
+  abbrev check : LoadRecord → Option LoadRecord → Result LoadRecord Refusal
   check = checked_neighbour g.cable.diameter g.cable.depth
 
-  rising : (r n : LoadRecord) → check r (record_at s r.next) ≡ K.Accepted n → above n < above r
+  rising : (r n : LoadRecord) → check r (record_at s r.next) ≡ Ok n → above n < above r
   rising = links_rise g.cable.diameter g.cable.depth s
 
   pub ends : at.next ≡ 0 → sums ≡ sums_in g seconds
@@ -113,19 +111,19 @@ module _ {s : List ℕ} {g : Group} {seconds diffusion : ℕ} {sums : Sums} {at 
       let e = summing_ends (subst (λ rs. Summing diffusion a.heat a.logarithm (sources_of g.cable.depth rs) (heats g seconds) (logarithms g)) nothing a.summing) in
       rw (a.is, e.0, e.1) refl
 
-  module _ (z : at.next ≡ 0 → ⊥) {read : RecordRead} (i : read ≡ record_at s at.next) where
+  module _ (z : at.next ≡ 0 → ⊥) {read : Option LoadRecord} (i : read ≡ record_at s at.next) where
     on : GoesOn check above s at a.rest
     on = goes_on check above s rising at z a.walk
 
-    held : read ≡ Held on.next
+    held : read ≡ Some on.next
     held = i ∙ (accepted_neighbour g.cable.diameter g.cable.depth at (record_at s at.next) on.accepted).held
 
-    pub not_missing : read ≡ Missing → ⊥
+    pub not_missing : read ≡ None → ⊥
     not_missing e = let y : ◌≡◌ {A = ℕ} 0 1 = cc (held, e) in absurd (omega arith)
 
-    module _ {next : LoadRecord} (e : read ≡ Held next) where
+    module _ {next : LoadRecord} (e : read ≡ Some next) where
       same : on.next ≡ next
-      same = let y : Held on.next ≡ Held next = sym held ∙ e in cc
+      same = let y : Some on.next ≡ Some next = sym held ∙ e in cc
 
       inside : InTrench (numbers_in g) (neighbour_of next)
       inside = subst (λ n. InTrench (numbers_in g) (neighbour_of n)) same (accepted_inside g.cable.diameter g.cable.depth s (numbers_in g) refl refl at on.next on.accepted)

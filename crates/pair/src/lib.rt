@@ -8,7 +8,7 @@ ghost use Rattle.pair.specs.Sums.{Timed, Summed, sums_in};
 
 use attained::Sums;
 use bounds::Bounds;
-use sheet_rules::{RecordRead, Trench};
+use sheet_rules::Trench;
 
 // In seconds.
 const MINUTE: u64 = 60;
@@ -41,7 +41,7 @@ fn sums_in(sheet: &[u8], trench: Trench, seconds: u64) -> Sums
     while at.next != 0 {
         let read = records::record_at(sheet, at.next);
         // Never taken: the links of an accepted chain lead to records.
-        let RecordRead::Held(next) = read else {
+        let Some(next) = read else {
             return sums;
         };
         let near = neighbours::near_of(used.depth, next);

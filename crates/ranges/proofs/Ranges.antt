@@ -1,4 +1,5 @@
 -- What passing a range, and a list of ranges, says.
+use Rattle.std.proofs.Common.{Option, Some, None}
 use mathlib.Core.Path.{◌≡◌, refl}
 use mathlib.Core.Bool.{Bool, true, false, cond, ◌||◌}
 use mathlib.Core.List.{List, [], ◌∷◌}
@@ -41,18 +42,18 @@ Each (r ∷ rs) (x ∷ xs) = (outside r x ≡ false) × Each rs xs
 Each (r ∷ rs) [] = Unit {0}
 Each [] xs = Unit {0}
 
-first_passed : (t : Bool) {k n : ℕ} → 0 < k → cond t k n ≡ 0 → (t ≡ false) × (n ≡ 0)
-first_passed true h e = absurd (omega arith)
-first_passed false h e = (refl, e)
+first_passed : (t : Bool) (k : ℕ) {n : Option ℕ} → cond t (Some k) n ≡ None → (t ≡ false) × (n ≡ None)
+first_passed true k e = let z : ◌≡◌ {A = ℕ} 0 1 = cc in absurd (omega arith)
+first_passed false k e = (refl, e)
 
-pub none_outside : (k : ℕ) (rs : List Range) (xs : List ℕ) → 0 < k → first_outside k rs xs ≡ 0 → Each rs xs
-none_outside k (r ∷ rs) (x ∷ xs) h e =
-    let p = first_passed (outside r x) h e in
-    (p.0, none_outside (suc k) rs xs (omega arith) p.1)
-none_outside k (r ∷ rs) [] h e = tt
-none_outside k [] xs h e = tt
+pub none_outside : (k : ℕ) (rs : List Range) (xs : List ℕ) → first_outside k rs xs ≡ None → Each rs xs
+none_outside k (r ∷ rs) (x ∷ xs) e =
+    let p = first_passed (outside r x) k e in
+    (p.0, none_outside (suc k) rs xs p.1)
+none_outside k (r ∷ rs) [] e = tt
+none_outside k [] xs e = tt
 
-pub each_passes : (k : ℕ) (rs : List Range) (xs : List ℕ) → Each rs xs → first_outside k rs xs ≡ 0
+pub each_passes : (k : ℕ) (rs : List Range) (xs : List ℕ) → Each rs xs → first_outside k rs xs ≡ None
 each_passes k (r ∷ rs) (x ∷ xs) e = rw e.0 (each_passes (suc k) rs xs e.1)
 each_passes k (r ∷ rs) [] e = refl
 each_passes k [] xs e = refl
@@ -60,7 +61,7 @@ each_passes k [] xs e = refl
 -- ---- the values one by one
 
 -- the first outside from the one at i on
-unfoldable pub outside_from : List (List ℕ) → List ℕ → ℕ → ℕ
+unfoldable pub outside_from : List (List ℕ) → List ℕ → ℕ → Option ℕ
 outside_from pairs xs i = first_outside (suc i) (ranges_of (drop i pairs)) (drop i xs)
 
 module _ (pairs : List (List ℕ)) (xs : List ℕ) where
@@ -69,16 +70,16 @@ module _ (pairs : List (List ℕ)) (xs : List ℕ) where
   from_first = refl
 
   module _ (i : ℕ) (same : length pairs ≡ length xs) (h : i < length xs) where
-    from_here : outside_from pairs xs i ≡ cond (outside (range_of (get_or pairs i [])) (get_or xs i 0)) (suc i) (outside_from pairs xs (suc i))
+    from_here : outside_from pairs xs i ≡ cond (outside (range_of (get_or pairs i [])) (get_or xs i 0)) (Some (suc i)) (outside_from pairs xs (suc i))
     unfolding outside_from
     from_here = rw (drop-cons pairs i [] (omega arith), drop-cons xs i 0 h)
 
-    pub from_outside : outside (range_of (get_or pairs i [])) (get_or xs i 0) ≡ true → outside_from pairs xs i ≡ i + 1
+    pub from_outside : outside (range_of (get_or pairs i [])) (get_or xs i 0) ≡ true → outside_from pairs xs i ≡ Some (i + 1)
     from_outside e = rw (from_here, e, add-one)
 
     pub from_passed : outside (range_of (get_or pairs i [])) (get_or xs i 0) ≡ false → outside_from pairs xs i ≡ outside_from pairs xs (i + 1)
     from_passed e = rw (from_here, e, add-one)
 
-  pub from_last : (i : ℕ) → length pairs ≤ i → outside_from pairs xs i ≡ 0
+  pub from_last : (i : ℕ) → length pairs ≤ i → outside_from pairs xs i ≡ None
   unfolding outside_from
   from_last i h = rw (drop_of_length-le pairs h)

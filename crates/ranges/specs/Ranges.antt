@@ -1,5 +1,5 @@
 -- Document 01, 'When the desk is told no': the range of an input, and the first input outside its range.
-use Rattle.std.specs.Prelude.{Bool, true, false, cond, ◌&&◌, ◌||◌, List, [], ◌∷◌, map, ℕ, suc, eqb, ltb, get_or}
+use Rattle.std.specs.Prelude.{Bool, true, false, cond, ◌&&◌, ◌||◌, List, [], ◌∷◌, map, ℕ, suc, eqb, ltb, get_or, Option, Some, None}
 
 -- The least and the greatest value of an input, and whether 0 is a value besides.
 pub record Range : Type 0 where
@@ -25,8 +25,8 @@ range_of pair = get_or pair 0 0 to get_or pair 1 0
 abbrev pub ranges_of : List (List ℕ) → List Range
 ranges_of pairs = map range_of pairs
 
--- "field outside its range, first such": the number of the first value outside its range, counted from k, or 0.
-abbrev pub first_outside : ℕ → List Range → List ℕ → ℕ
-first_outside k (r ∷ rs) (x ∷ xs) = cond (outside r x) k (first_outside (suc k) rs xs)
-first_outside k (r ∷ rs) [] = 0
-first_outside k [] xs = 0
+-- "field outside its range, first such": the number of the first value outside its range, counted from k, if there is one.
+abbrev pub first_outside : ℕ → List Range → List ℕ → Option ℕ
+first_outside k (r ∷ rs) (x ∷ xs) = cond (outside r x) (Some k) (first_outside (suc k) rs xs)
+first_outside k (r ∷ rs) [] = None
+first_outside k [] xs = None

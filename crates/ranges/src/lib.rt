@@ -11,18 +11,16 @@ pub fn outside(x: u32, low: u32, high: u32) -> bool
     x < low || high < x
 }
 
-// The number of the first value outside its range, counted from 1, or 0; a range is its least and its greatest value.
-pub fn first_outside(values: &[u32], ranges: &[[u32; 2]]) -> u8
+// The number of the first value outside its range, counted from 1; a range is its least and its greatest value.
+pub fn first_outside(values: &[u32], ranges: &[[u32; 2]]) -> Option<u8>
     requires { (length ranges.now ≡ length values.now) × (length values.now ≤ 255) }
     ensures { result ≡ first_outside 1 (ranges_of ranges.now) values.now }
 {
-    let mut i = 0;
-    while i < values.len() {
+    for (i, value) in values.iter().enumerate() {
         let range = ranges[i];
-        if outside(values[i], range[0], range[1]) {
-            return (i + 1) as u8;
+        if outside(*value, range[0], range[1]) {
+            return Some((i + 1) as u8);
         }
-        i += 1;
     }
-    0
+    None
 }

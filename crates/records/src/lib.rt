@@ -8,7 +8,7 @@ ghost use Rattle.sheet_rules.specs.Promises.{RecordReadAs, RecordSaid};
 
 use header::RECORD_LENGTH;
 use refusals::{Place, Refusal};
-use sheet_rules::{LoadRecord, RecordCheck, RecordRead};
+use sheet_rules::LoadRecord;
 
 // A step's minutes before now.
 const LEAST_MINUTES: u32 = 1;
@@ -31,23 +31,23 @@ pub fn before_first(start: u32, link: usize) -> LoadRecord
 }
 
 // Record `number` of a sheet: the header's for 0, and missing above the last one.
-pub fn record_at(sheet: &[u8], number: usize) -> RecordRead
+pub fn record_at(sheet: &[u8], number: usize) -> Option<LoadRecord>
     ensures { RecordReadAs sheet.now number result }
 {
     let size = sheet.len();
     if header::wrong_length(size) {
-        return RecordRead::Missing;
+        return None;
     }
     if header::record_count(size) < number {
-        return RecordRead::Missing;
+        return None;
     }
     if number == 0 {
-        return RecordRead::Held(before_first(
+        return Some(before_first(
             header::starting_current(sheet),
             header::first_link(sheet),
         ));
     }
-    RecordRead::Held(held_record(sheet, number))
+    Some(held_record(sheet, number))
 }
 
 fn held_record(sheet: &[u8], number: usize) -> LoadRecord
@@ -68,10 +68,13 @@ fn held_record(sheet: &[u8], number: usize) -> LoadRecord
 }
 
 // What was read at the link of the record `before`, or its first refusal.
-pub fn check_record(before: LoadRecord, read: RecordRead) -> RecordCheck
+pub fn check_record(
+    before: LoadRecord,
+    read: Option<LoadRecord>,
+) -> Result<LoadRecord, Refusal>
     ensures { RecordSaid before read result }
 {
-    let RecordRead::Held(record) = read else {
+    let Some(record) = read else {
         return refused_at(5, before.number);
     };
     if ranges::outside(record.minutes, LEAST_MINUTES, MOST_MINUTES) {
@@ -83,13 +86,13 @@ pub fn check_record(before: LoadRecord, read: RecordRead) -> RecordCheck
     if before.minutes <= record.minutes {
         return refused_at(8, record.number);
     }
-    RecordCheck::Accepted(record)
+    Ok(record)
 }
 
-pub fn refused_at(number: u8, place: u8) -> RecordCheck
+pub fn refused_at(number: u8, place: u8) -> Result<LoadRecord, Refusal>
     ensures { result ≡ refused_at number place }
 {
-    RecordCheck::Refused(Refusal {
+    Err(Refusal {
         number,
         place: Place::Record(place),
     })

@@ -10,7 +10,7 @@ ghost use Rattle.share_rules.specs.Answer.{share_from, share_answer, stated_shar
 use cable::Cable;
 use refusals::{Parts, Place, Refusal};
 pub use share_rules::ShareAnswer;
-use sheet::{Trench, TrenchCheck};
+use sheet::Trench;
 
 // Two days.
 const MOST_MINUTES: u32 = 2880;
@@ -30,13 +30,13 @@ pub fn share_in_sheet(sheet: &[u8], minutes: u32) -> ShareAnswer
 }
 
 // The share of what is given, or the refusal of what was handed in.
-pub fn share_given(sheet: &[u8], given: TrenchCheck, minutes: u32) -> ShareAnswer
+pub fn share_given(sheet: &[u8], given: Result<Trench, Refusal>, minutes: u32) -> ShareAnswer
     requires { OnlyLaid sheet.now given }
     ensures { result ≡ share_answer (as_given_in sheet.now given) minutes }
 {
     match given {
-        TrenchCheck::Accepted(trench) => share_of(sheet, trench, minutes),
-        TrenchCheck::Refused(refusal) => ShareAnswer::Refused(refusal),
+        Ok(trench) => share_of(sheet, trench, minutes),
+        Err(refusal) => ShareAnswer::Refused(refusal),
     }
 }
 
@@ -54,12 +54,12 @@ pub fn share_of(sheet: &[u8], trench: Trench, minutes: u32) -> ShareAnswer
     ShareAnswer::Pair(pair::pair_of(sheet, trench, minutes))
 }
 
-// What an answer states.
+// What an answer states. No From, which would have to stand beside the answer's type, in a crate that has definitions alone.
 pub fn parts(answer: ShareAnswer) -> Parts
     ensures { result ≡ parts_of (stated_share answer) }
 {
     match answer {
-        ShareAnswer::Pair(pair) => refusals::of_pair(pair),
-        ShareAnswer::Refused(refusal) => refusals::of_refusal(refusal),
+        ShareAnswer::Pair(pair) => Parts::from(pair),
+        ShareAnswer::Refused(refusal) => Parts::from(refusal),
     }
 }

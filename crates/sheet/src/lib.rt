@@ -7,66 +7,50 @@ ghost use Rattle.sheet_rules.specs.Walk.{walk_from};
 
 pub mod reader;
 
-use cable::{Cable, CableCheck};
+use cable::Cable;
 pub use header::check_header;
 use neighbours::check_neighbour;
 pub use neighbours::{beside_first, image_of, near_of};
 pub use records::{before_first, check_record, record_at};
-use sheet_rules::{ChainCheck, Links};
-pub use sheet_rules::{
-    Header, HeaderCheck, LoadRecord, RecordCheck, RecordRead, Trench, TrenchCheck,
-};
+use refusals::Refusal;
+use sheet_rules::Links;
+pub use sheet_rules::{Header, LoadRecord, Trench};
 
 // The header of a sheet of which all is accepted, or the first refusal: of the header, of the load chain, of the neighbours.
-pub fn check_sheet(sheet: &[u8]) -> HeaderCheck
+pub fn check_sheet(sheet: &[u8]) -> Result<Header, Refusal>
     ensures { SheetSaid sheet.now result }
 {
-    let checked = check_header(sheet);
-    let header = match checked {
-        HeaderCheck::Accepted(accepted) => accepted,
-        HeaderCheck::Refused(refusal) => return HeaderCheck::Refused(refusal),
-    };
-    let load = check_chain(
-        sheet,
-        Links::Load,
-        header.cable,
-        before_first(header.start, header.link),
-    );
-    match load {
-        ChainCheck::Refused(refusal) => return HeaderCheck::Refused(refusal),
-        ChainCheck::Passed => {}
-    }
-    let beside = check_chain(
-        sheet,
-        Links::Neighbours,
-        header.cable,
-        beside_first(header.neighbours),
-    );
-    match beside {
-        ChainCheck::Refused(refusal) => HeaderCheck::Refused(refusal),
-        ChainCheck::Passed => HeaderCheck::Accepted(header),
-    }
+    let header = check_header(sheet)?;
+    let load = before_first(header.start, header.link);
+    check_chain(sheet, Links::Load, header.cable, load)?;
+    let beside = beside_first(header.neighbours);
+    check_chain(sheet, Links::Neighbours, header.cable, beside)?;
+    Ok(header)
 }
 
 // The walk along a chain, for its checks alone. Each turn is nearer to the chain's end: minutes fall on the load chain, and links rise on that of neighbours.
-fn check_chain(sheet: &[u8], links: Links, cable: Cable, first: LoadRecord) -> ChainCheck
+fn check_chain(
+    sheet: &[u8],
+    links: Links,
+    cable: Cable,
+    first: LoadRecord,
+) -> Result<(), Refusal>
     requires { InGround cable }
     ensures { result ≡ outcome_of (walk_from (checked_next links cable) (suc (turns_left links first)) sheet.now first) }
 {
     let mut at = first;
-    loop {
-        if at.next == 0 {
-            break ChainCheck::Passed;
-        }
-        let checked = check_next(links, cable, at, record_at(sheet, at.next));
-        match checked {
-            RecordCheck::Refused(refusal) => break ChainCheck::Refused(refusal),
-            RecordCheck::Accepted(next) => at = next,
-        }
+    while at.next != 0 {
+        at = check_next(links, cable, at, record_at(sheet, at.next))?;
     }
+    Ok(())
 }
 
-fn check_next(links: Links, cable: Cable, before: LoadRecord, read: RecordRead) -> RecordCheck
+fn check_next(
+    links: Links,
+    cable: Cable,
+    before: LoadRecord,
+    read: Option<LoadRecord>,
+) -> Result<LoadRecord, Refusal>
     requires { InGround cable }
     ensures { result ≡ checked_next links cable before read }
 {
@@ -77,28 +61,22 @@ fn check_next(links: Links, cable: Cable, before: LoadRecord, read: RecordRead) 
 }
 
 // What a calculation is given by a sheet.
-pub fn given(sheet: &[u8]) -> TrenchCheck
+pub fn given(sheet: &[u8]) -> Result<Trench, Refusal>
     ensures { GivenBySheet sheet.now result }
 {
-    let checked = check_sheet(sheet);
-    match checked {
-        HeaderCheck::Accepted(header) => TrenchCheck::Accepted(trench_of(header)),
-        HeaderCheck::Refused(refusal) => TrenchCheck::Refused(refusal),
-    }
+    let header = check_sheet(sheet)?;
+    Ok(trench_of(header))
 }
 
 // What a calculation is given by a cable without a sheet: no neighbours.
-pub fn given_alone(cable: Cable) -> TrenchCheck
+pub fn given_alone(cable: Cable) -> Result<Trench, Refusal>
     ensures { GivenAlone cable result }
 {
-    let checked = cable::given(cable);
-    match checked {
-        CableCheck::Accepted(used) => TrenchCheck::Accepted(Trench {
-            cable: used,
-            neighbours: 0,
-        }),
-        CableCheck::Refused(refusal) => TrenchCheck::Refused(refusal),
-    }
+    let used = cable::given(cable)?;
+    Ok(Trench {
+        cable: used,
+        neighbours: 0,
+    })
 }
 
 // What a calculation takes of an accepted sheet's header.

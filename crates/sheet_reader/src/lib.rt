@@ -6,7 +6,7 @@ ghost use Rattle.std.specs.Prelude.{◌≡◌};
 ghost use Rattle.sheet_rules.specs.Promises.{RecordReadAs};
 
 use records::record_at;
-use sheet_rules::RecordRead;
+use sheet_rules::LoadRecord;
 
 #[derive(Clone, Copy)]
 pub struct Reader<'a> {
@@ -32,14 +32,14 @@ pub fn moved<'a>(reader: Reader<'a>, number: usize) -> Reader<'a>
 }
 
 // The record that the reader is at: the header's for 0, and missing above the last one.
-pub fn read<'a>(reader: Reader<'a>) -> RecordRead
+pub fn read<'a>(reader: Reader<'a>) -> Option<LoadRecord>
     ensures { RecordReadAs reader.entry.sheet.now reader.entry.number result }
 {
     record_at(reader.sheet, reader.number)
 }
 
 // A record by a reader that is moved on to it.
-pub fn record_read(sheet: &[u8], number: usize) -> RecordRead
+pub fn record_read(sheet: &[u8], number: usize) -> Option<LoadRecord>
     ensures { RecordReadAs sheet.now number result }
 {
     read(moved(opened(sheet), number))

@@ -1,5 +1,5 @@
 -- Worked examples of both headers and of the load chain: document 01, 'The load sheet' and 'When the desk is told no', numbers 1 and 4 to 8; document 02, note 2.
-use Rattle.std.specs.Prelude.{◌≡◌, refl, [], ◌∷◌, ◌++◌, replicate, take}
+use Rattle.std.specs.Prelude.{◌≡◌, refl, [], ◌∷◌, ◌++◌, replicate, take, Ok, Err}
 use Rattle.cable_rules.specs.Checks.{outside_field, checked}
 use Rattle.refusals.specs.declared.Place.TheVariants as P
 use Rattle.sheet_rules.specs.BigEndian.{big_endian}
@@ -9,12 +9,11 @@ use Rattle.sheet_rules.specs.Records.{record_of, record_at, checked_record}
 use Rattle.sheet_rules.specs.Chain.{steps, refused, chain_of}
 use Rattle.sheet_rules.specs.Walk.{walk_from}
 use Rattle.sheet_rules.specs.ExampleSheets.{two, fields_with, fields_a, record_bytes, sheet_a, long_sheet_a, header_a, step, at_record, refused_none}
-use Rattle.sheet_rules.specs.declared.HeaderCheck.TheVariants.{Accepted, Refused}
 
 -- ---- the header
 
 -- every field, the starting current and the first link
-header_read : checked_header (sheet_a 300 2 (replicate 12 0)) ≡ Accepted (header_a 300 2 0)
+header_read : checked_header (sheet_a 300 2 (replicate 12 0)) ≡ Ok (header_a 300 2 0)
 unfolding header_length checked_header wrong_length checked outside_field cable_of big_endian
 header_read = refl
 
@@ -34,7 +33,7 @@ unfolding header_length checked_header wrong_length
 length_330 = refl
 
 -- d = 99, and a starting current of 4,001 besides
-field_before_start : checked_header (fields_with 99 1000 500 100 ++ (two 4001 ++ two 0)) ≡ Refused (record { number = 2; place = P.Field 1 })
+field_before_start : checked_header (fields_with 99 1000 500 100 ++ (two 4001 ++ two 0)) ≡ Err (record { number = 2; place = P.Field 1 })
 unfolding header_length checked_header wrong_length checked outside_field cable_of big_endian
 field_before_start = refl
 
@@ -49,19 +48,19 @@ unfolding header_length checked_header wrong_length checked outside_field cable_
 start_before_link = refl
 
 -- 4,000 A is not above 4,000
-start_4000 : checked_header (sheet_a 4000 0 []) ≡ Accepted (header_a 4000 0 0)
+start_4000 : checked_header (sheet_a 4000 0 []) ≡ Ok (header_a 4000 0 0)
 unfolding header_length checked_header wrong_length checked outside_field cable_of big_endian
 start_4000 = refl
 
 -- ---- the long header: document 02, note 2
 
 -- 38 bytes: a first link of 2, a second one of 258 in bytes 37 and 38, and no records
-length_38 : checked_header (long_sheet_a 300 2 258 []) ≡ Accepted (header_a 300 2 258)
+length_38 : checked_header (long_sheet_a 300 2 258 []) ≡ Ok (header_a 300 2 258)
 unfolding header_length checked_header wrong_length checked outside_field cable_of big_endian
 length_38 = refl
 
 -- 44 bytes: a second link and one record
-length_44 : checked_header (long_sheet_a 300 0 1 (replicate 6 0)) ≡ Accepted (header_a 300 0 1)
+length_44 : checked_header (long_sheet_a 300 0 1 (replicate 6 0)) ≡ Ok (header_a 300 0 1)
 unfolding header_length checked_header wrong_length checked outside_field cable_of big_endian
 length_44 = refl
 
@@ -71,12 +70,12 @@ unfolding header_length checked_header wrong_length
 length_40 = refl
 
 -- 36 + 6 · 48 bytes
-length_324 : checked_header (sheet_a 300 0 (replicate 288 0)) ≡ Accepted (header_a 300 0 0)
+length_324 : checked_header (sheet_a 300 0 (replicate 288 0)) ≡ Ok (header_a 300 0 0)
 unfolding header_length checked_header wrong_length checked outside_field cable_of big_endian
 length_324 = refl
 
 -- 38 + 6 · 48 bytes
-length_326 : checked_header (long_sheet_a 300 0 48 (replicate 288 0)) ≡ Accepted (header_a 300 0 48)
+length_326 : checked_header (long_sheet_a 300 0 48 (replicate 288 0)) ≡ Ok (header_a 300 0 48)
 unfolding header_length checked_header wrong_length checked outside_field cable_of big_endian
 length_326 = refl
 
@@ -96,7 +95,7 @@ unfolding header_length checked_header wrong_length
 length_32 = refl
 
 -- 42 bytes: bytes 37 and 38 are those of record 1, and hold a 1
-short_without_second_link : checked_header (sheet_a 300 0 (record_bytes 1 1000 0)) ≡ Accepted (header_a 300 0 0)
+short_without_second_link : checked_header (sheet_a 300 0 (record_bytes 1 1000 0)) ≡ Ok (header_a 300 0 0)
 unfolding header_length checked_header wrong_length checked outside_field cable_of big_endian
 short_without_second_link = refl
 

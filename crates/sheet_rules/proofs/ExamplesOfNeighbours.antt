@@ -1,5 +1,5 @@
 -- Worked examples of the chain of neighbours and of a whole sheet: document 02, note 2, numbers 14 to 16.
-use Rattle.std.specs.Prelude.{◌≡◌, refl, List, [], ◌∷◌, ◌++◌, ℕ, ℤ, pos, negsuc}
+use Rattle.std.specs.Prelude.{◌≡◌, refl, List, [], ◌∷◌, ◌++◌, ℕ, ℤ, pos, negsuc, Ok, Err}
 use Rattle.exact.specs.Share.{Neighbour}
 use Rattle.cable_rules.specs.Checks.{outside_field, checked, in_use}
 use Rattle.cable_rules.specs.Group as G
@@ -13,7 +13,6 @@ use Rattle.sheet_rules.specs.Neighbours.{checked_neighbour, neighbours_in, trenc
 use Rattle.sheet_rules.specs.Sheet.{checked_sheet, group_of, given_sheet}
 use Rattle.sheet_rules.specs.ExampleSheets.{two, fields_with, record_bytes, sheet_a, long_sheet_a, cable_a, header_a, step, at_record, refused_none}
 use Rattle.sheet_rules.specs.declared.LoadRecord.{LoadRecord}
-use Rattle.sheet_rules.specs.declared.HeaderCheck.TheVariants.{Accepted, Refused}
 
 -- a diameter and a depth of the cable, no load chain, a second link to record 1, and the records
 abbrev beside_with : ℕ → ℕ → List ℕ → List ℕ
@@ -157,12 +156,12 @@ in_turn = refl
 -- ---- the whole
 
 -- a second link of 0, and no records
-long_and_empty : checked_sheet (long_sheet_a 300 0 0 []) ≡ Accepted (header_a 300 0 0)
+long_and_empty : checked_sheet (long_sheet_a 300 0 0 []) ≡ Ok (header_a 300 0 0)
 unfolding checked_sheet header_length checked_header wrong_length checked outside_field cable_of big_endian walk_from
 long_and_empty = refl
 
 -- a second link of 0, and a record that no link leads to
-nothing_linked : checked_sheet (long_sheet_a 300 0 0 (record_bytes 0 0 2)) ≡ Accepted (header_a 300 0 0)
+nothing_linked : checked_sheet (long_sheet_a 300 0 0 (record_bytes 0 0 2)) ≡ Ok (header_a 300 0 0)
 unfolding checked_sheet header_length checked_header wrong_length checked outside_field cable_of big_endian walk_from
 nothing_linked = refl
 
@@ -191,7 +190,7 @@ abbrev shared_a : ℕ → List ℕ
 shared_a next = long_sheet_a 300 1 1 (record_bytes 1000 400 next)
 
 -- all of it passes
-shared_record : checked_sheet (shared_a 0) ≡ Accepted (header_a 300 1 1)
+shared_record : checked_sheet (shared_a 0) ≡ Ok (header_a 300 1 1)
 unfolding checked_sheet header_length checked_header wrong_length checked outside_field cable_of big_endian walk_from checked_record checked_neighbour record_at record_of
 shared_record = refl
 
@@ -206,22 +205,22 @@ unfolding header_length walk_from checked_neighbour record_at record_of wrong_le
 shared_neighbour = refl
 
 -- it links to 2 of one record: 5 on the load chain, and 14 on that of neighbours besides
-shared_link_above : checked_sheet (shared_a 2) ≡ Refused (at_record 5 1)
+shared_link_above : checked_sheet (shared_a 2) ≡ Err (at_record 5 1)
 unfolding checked_sheet header_length checked_header wrong_length checked outside_field cable_of big_endian walk_from checked_record checked_neighbour record_at record_of
 shared_link_above = refl
 
 -- it links to itself: 8 on the load chain, since its minutes do not fall, and 14 besides
-shared_link_to_itself : checked_sheet (shared_a 1) ≡ Refused (at_record 8 1)
+shared_link_to_itself : checked_sheet (shared_a 1) ≡ Err (at_record 8 1)
 unfolding checked_sheet header_length checked_header wrong_length checked outside_field cable_of big_endian walk_from checked_record checked_neighbour record_at record_of
 shared_link_to_itself = refl
 
 -- "After all checks of the load chain": 4,001 A in record 2, its last; and a second link to record 3, which has an offset of 3,001
-load_chain_first : checked_sheet (long_sheet_a 300 1 3 (record_bytes 60 300 2 ++ (record_bytes 30 4001 0 ++ record_bytes 3001 1000 0))) ≡ Refused (at_record 7 2)
+load_chain_first : checked_sheet (long_sheet_a 300 1 3 (record_bytes 60 300 2 ++ (record_bytes 30 4001 0 ++ record_bytes 3001 1000 0))) ≡ Err (at_record 7 2)
 unfolding checked_sheet header_length checked_header wrong_length checked outside_field cable_of big_endian walk_from checked_record checked_neighbour record_at record_of
 load_chain_first = refl
 
 -- the same with 4,000 A
-neighbours_after_it : checked_sheet (long_sheet_a 300 1 3 (record_bytes 60 300 2 ++ (record_bytes 30 4000 0 ++ record_bytes 3001 1000 0))) ≡ Refused (at_record 15 3)
+neighbours_after_it : checked_sheet (long_sheet_a 300 1 3 (record_bytes 60 300 2 ++ (record_bytes 30 4000 0 ++ record_bytes 3001 1000 0))) ≡ Err (at_record 15 3)
 unfolding checked_sheet header_length checked_header wrong_length checked outside_field cable_of big_endian walk_from checked_record checked_neighbour record_at record_of
 neighbours_after_it = refl
 

@@ -1,4 +1,5 @@
 -- The check of a neighbour in each of its ways out, what is known of one that is accepted, and of the chain of them.
+use Rattle.std.proofs.Common.{Option, Some, None, Ok, Err}
 use mathlib.Core.Path.{◌≡◌, refl}
 use mathlib.Core.Bool.{Bool, true, false, cond}
 use mathlib.Core.List.{List, [], ◌∷◌, map}
@@ -19,15 +20,12 @@ use Rattle.sheet_rules.specs.Records.{record_at, record_of, origin, refused_at}
 use Rattle.sheet_rules.specs.Neighbours.{neighbour_of, most_offset, least_depth, most_depth, out_of_trench, too_near, checked_neighbour, above, neighbour_walk, neighbours_in}
 use Rattle.sheet_rules.specs.Walk.{records_in}
 use Rattle.sheet_rules.specs.declared.LoadRecord.{LoadRecord}
-use Rattle.sheet_rules.specs.declared.RecordRead.{RecordRead}
-use Rattle.sheet_rules.specs.declared.RecordRead.TheVariants.{Held, Missing}
-use Rattle.sheet_rules.specs.declared.RecordCheck.TheVariants.{Accepted, Refused}
 use Rattle.sheet_rules.proofs.RightLength.{right_length}
 use Rattle.sheet_rules.proofs.Turns.{AtRecords, none, more, few, at_records}
 
 -- no record that is held has a number above 48
 module _ (s : List ℕ) (k : ℕ) {r : LoadRecord} where
-  by_tests : (t u v : Bool) → wrong_length (length s) ≡ t → ltb (record_count (length s)) k ≡ u → cond t Missing (cond u Missing (cond v (Held (origin s)) (Held (record_of s k)))) ≡ Held r → r.number ≤ most_records
+  by_tests : (t u v : Bool) → wrong_length (length s) ≡ t → ltb (record_count (length s)) k ≡ u → cond t None (cond u None (cond v (Some (origin s)) (Some (record_of s k)))) ≡ Some r → r.number ≤ most_records
   unfolding record_of
   by_tests true u v p q e = let z : ◌≡◌ {A = ℕ} 0 1 = cc in absurd (omega arith)
   by_tests false true v p q e = let z : ◌≡◌ {A = ℕ} 0 1 = cc in absurd (omega arith)
@@ -38,16 +36,16 @@ module _ (s : List ℕ) (k : ℕ) {r : LoadRecord} where
       let most = ltb-false (record_count (length s)) k q in
       omega arith
 
-  pub held_number : record_at s k ≡ Held r → r.number ≤ most_records
+  pub held_number : record_at s k ≡ Some r → r.number ≤ most_records
   unfolding record_at
   held_number e = by_tests (wrong_length (length s)) (ltb (record_count (length s)) k) (eqb k 0) refl refl e
 
-module _ (d l : ℕ) (before : LoadRecord) {read : RecordRead} where
-  pub link_missing : read ≡ Missing → refused_at 14 before.number ≡ checked_neighbour d l before read
+module _ (d l : ℕ) (before : LoadRecord) {read : Option LoadRecord} where
+  pub link_missing : read ≡ None → refused_at 14 before.number ≡ checked_neighbour d l before read
   unfolding checked_neighbour
   link_missing e = rw e
 
-  module _ {r : LoadRecord} (e : read ≡ Held r) where
+  module _ {r : LoadRecord} (e : read ≡ Some r) where
     pub link_not_above : r.number ≤ before.number → refused_at 14 before.number ≡ checked_neighbour d l before read
     unfolding checked_neighbour
     link_not_above h = rw e (rw (le-leb _ _ h, checked_neighbour))
@@ -63,7 +61,7 @@ module _ (d l : ℕ) (before : LoadRecord) {read : RecordRead} where
         depth_refused h = rw e (rw (lt-leb _ _ a, le-ltb _ _ o, h, checked_neighbour))
 
         module _ (b : outside (least_depth to most_depth) r.amperes ≡ false) where
-          pub neighbour_accepted : d * d ≤ 100 * (source_of l (neighbour_of r)).near → Accepted r ≡ checked_neighbour d l before read
+          pub neighbour_accepted : d * d ≤ 100 * (source_of l (neighbour_of r)).near → Ok r ≡ checked_neighbour d l before read
           unfolding checked_neighbour
           neighbour_accepted h = rw e (rw (lt-leb _ _ a, le-ltb _ _ o, b, le-ltb _ _ h, checked_neighbour))
 
@@ -78,15 +76,15 @@ near_most l r h o d =
     omega (arith, mul-le-mul o o, mul-le-mul b b)
 
 -- what is known of a neighbour once it is accepted
-pub record NeighbourAccepted (d l : ℕ) (before : LoadRecord) (read : RecordRead) (r : LoadRecord) : Type 0 where
-  pub held : read ≡ Held r
+pub record NeighbourAccepted (d l : ℕ) (before : LoadRecord) (read : Option LoadRecord) (r : LoadRecord) : Type 0 where
+  pub held : read ≡ Some r
   pub rises : before.number < r.number
   pub inside : out_of_trench (neighbour_of r) ≡ false
   pub apart : too_near d l (neighbour_of r) ≡ false
 
 accepted : (d l : ℕ) (t u v : Bool) (f g h : Refusal) (before q : LoadRecord) {r : LoadRecord} → leb q.number before.number ≡ t → out_of_trench (neighbour_of q) ≡ u → too_near d l (neighbour_of q) ≡ v
-    → cond t (Refused f) (cond u (Refused g) (cond v (Refused h) (Accepted q))) ≡ Accepted r
-    → NeighbourAccepted d l before (Held q) r
+    → cond t (Err f) (cond u (Err g) (cond v (Err h) (Ok q))) ≡ Ok r
+    → NeighbourAccepted d l before (Some q) r
 accepted d l true u v f g h before q p o w e = let z : ◌≡◌ {A = ℕ} 0 1 = cc in absurd (omega arith)
 accepted d l false true v f g h before q p o w e = let z : ◌≡◌ {A = ℕ} 0 1 = cc in absurd (omega arith)
 accepted d l false false true f g h before q p o w e = let z : ◌≡◌ {A = ℕ} 0 1 = cc in absurd (omega arith)
@@ -94,16 +92,16 @@ accepted d l false false false f g h before q {r} p o w e =
     let i : q ≡ r = cc in
     rw (← i) (record { held = refl; rises = leb-false q.number before.number p; inside = o; apart = w })
 
-pub accepted_neighbour : (d l : ℕ) (before : LoadRecord) (read : RecordRead) {r : LoadRecord} → checked_neighbour d l before read ≡ Accepted r → NeighbourAccepted d l before read r
+pub accepted_neighbour : (d l : ℕ) (before : LoadRecord) (read : Option LoadRecord) {r : LoadRecord} → checked_neighbour d l before read ≡ Ok r → NeighbourAccepted d l before read r
 unfolding checked_neighbour
-accepted_neighbour d l before (Held q) e =
+accepted_neighbour d l before (Some q) e =
     accepted d l (leb q.number before.number) (out_of_trench (neighbour_of q)) (too_near d l (neighbour_of q)) _ _ _ before q refl refl refl e
-accepted_neighbour d l before Missing e = let z : ◌≡◌ {A = ℕ} 0 1 = cc in absurd (omega arith)
+accepted_neighbour d l before None e = let z : ◌≡◌ {A = ℕ} 0 1 = cc in absurd (omega arith)
 
 -- ---- the chain
 
 module _ (d l : ℕ) (s : List ℕ) where
-  pub links_rise : (r n : LoadRecord) → checked_neighbour d l r (record_at s r.next) ≡ Accepted n → above n < above r
+  pub links_rise : (r n : LoadRecord) → checked_neighbour d l r (record_at s r.next) ≡ Ok n → above n < above r
   links_rise r n e =
       let a = accepted_neighbour d l r (record_at s r.next) e in
       let few = held_number s r.next a.held in
@@ -116,7 +114,7 @@ module _ (d l : ℕ) (s : List ℕ) where
 
   -- every neighbour of a chain is one that 15 and 16 let pass, for the numbers of a cable of this diameter and depth
   module _ (k : CableNumbers) (ed : k.d ≡ d) (el : k.l ≡ l) where
-    pub accepted_inside : (r n : LoadRecord) → checked_neighbour d l r (record_at s r.next) ≡ Accepted n → InTrench k (neighbour_of n)
+    pub accepted_inside : (r n : LoadRecord) → checked_neighbour d l r (record_at s r.next) ≡ Ok n → InTrench k (neighbour_of n)
     accepted_inside r n e =
         let a = accepted_neighbour d l r (record_at s r.next) e in
         let both = neither (ltb most_offset (nat_abs (neighbour_of n).offset)) (outside (least_depth to most_depth) (neighbour_of n).depth) a.inside in

@@ -1,4 +1,5 @@
 -- Reading a record in each of its ways out, and what is known of a record that is accepted.
+use Rattle.std.proofs.Common.{Option, Some, None, Ok, Err}
 use mathlib.Core.Path.{◌≡◌, refl}
 use mathlib.Core.Bool.{Bool, true, false, cond}
 use mathlib.Core.List.{List}
@@ -13,36 +14,33 @@ use Rattle.sheet_rules.specs.Layout.{record_count, wrong_length}
 use Rattle.sheet_rules.specs.Header.{most_amperes}
 use Rattle.sheet_rules.specs.Records.{least_minutes, most_minutes, origin, record_of, record_at, refused_at, checked_record}
 use Rattle.sheet_rules.specs.declared.LoadRecord.{LoadRecord}
-use Rattle.sheet_rules.specs.declared.RecordRead.{RecordRead}
-use Rattle.sheet_rules.specs.declared.RecordRead.TheVariants.{Held, Missing}
-use Rattle.sheet_rules.specs.declared.RecordCheck.TheVariants.{Accepted, Refused}
 
 module _ (s : List ℕ) (k : ℕ) where
-  pub no_records : wrong_length (length s) ≡ true → Missing ≡ record_at s k
+  pub no_records : wrong_length (length s) ≡ true → None ≡ record_at s k
   unfolding record_at
   no_records e = rw (e, record_at)
 
   module _ (e : wrong_length (length s) ≡ false) where
-    pub above_count : record_count (length s) < k → Missing ≡ record_at s k
+    pub above_count : record_count (length s) < k → None ≡ record_at s k
     unfolding record_at
     above_count h = rw (e, lt-ltb _ _ h, record_at)
 
     module _ (h : k ≤ record_count (length s)) where
-      pub header_held : k ≡ 0 → Held (origin s) ≡ record_at s k
+      pub header_held : k ≡ 0 → Some (origin s) ≡ record_at s k
       unfolding record_at
       header_held z = rw (e, le-ltb _ _ h, eq-eqb k 0 z, record_at)
 
-      pub record_held : (k ≡ 0 → ⊥) → Held (record_of s k) ≡ record_at s k
+      pub record_held : (k ≡ 0 → ⊥) → Some (record_of s k) ≡ record_at s k
       unfolding record_at
       record_held z = rw (e, le-ltb _ _ h, ne_eqb k 0 z, record_at)
 
 -- the checks of what was read, in each of their ways out
-module _ (before : LoadRecord) {read : RecordRead} where
-  pub link_refused : read ≡ Missing → refused_at 5 before.number ≡ checked_record before read
+module _ (before : LoadRecord) {read : Option LoadRecord} where
+  pub link_refused : read ≡ None → refused_at 5 before.number ≡ checked_record before read
   unfolding checked_record
   link_refused e = rw e
 
-  module _ {r : LoadRecord} (e : read ≡ Held r) where
+  module _ {r : LoadRecord} (e : read ≡ Some r) where
     pub minutes_refused : outside (least_minutes to most_minutes) r.minutes ≡ true → refused_at 6 r.number ≡ checked_record before read
     unfolding checked_record
     minutes_refused o = rw e (rw (o, checked_record))
@@ -57,7 +55,7 @@ module _ (before : LoadRecord) {read : RecordRead} where
         unfolding checked_record
         order_refused h = rw e (rw (o, le-ltb _ _ a, le-leb _ _ h, checked_record))
 
-        pub record_accepted : r.minutes < before.minutes → Accepted r ≡ checked_record before read
+        pub record_accepted : r.minutes < before.minutes → Ok r ≡ checked_record before read
         unfolding checked_record
         record_accepted h = rw e (rw (o, le-ltb _ _ a, lt-leb _ _ h, checked_record))
 
@@ -68,7 +66,7 @@ pub record RecordAccepted (before r : LoadRecord) : Type 0 where
   pub minutes_fall : r.minutes < before.minutes
 
 accepted : (t u v : Bool) (f g h : Refusal) (before q : LoadRecord) {r : LoadRecord} → outside (least_minutes to most_minutes) q.minutes ≡ t → ltb most_amperes q.amperes ≡ u → leb before.minutes q.minutes ≡ v
-    → cond t (Refused f) (cond u (Refused g) (cond v (Refused h) (Accepted q))) ≡ Accepted r
+    → cond t (Err f) (cond u (Err g) (cond v (Err h) (Ok q))) ≡ Ok r
     → RecordAccepted before r
 accepted true u v f g h before q o p w e = let z : ◌≡◌ {A = ℕ} 0 1 = cc in absurd (omega arith)
 accepted false true v f g h before q o p w e = let z : ◌≡◌ {A = ℕ} 0 1 = cc in absurd (omega arith)
@@ -82,8 +80,8 @@ accepted false false false f g h before q {r} o p w e =
       minutes_fall = leb-false before.minutes q.minutes w;
     })
 
-pub accepted_record : (before : LoadRecord) (read : RecordRead) {r : LoadRecord} → checked_record before read ≡ Accepted r → RecordAccepted before r
+pub accepted_record : (before : LoadRecord) (read : Option LoadRecord) {r : LoadRecord} → checked_record before read ≡ Ok r → RecordAccepted before r
 unfolding checked_record
-accepted_record before (Held q) e =
+accepted_record before (Some q) e =
     accepted (outside (least_minutes to most_minutes) q.minutes) (ltb most_amperes q.amperes) (leb before.minutes q.minutes) _ _ _ before q refl refl refl e
-accepted_record before Missing e = let z : ◌≡◌ {A = ℕ} 0 1 = cc in absurd (omega arith)
+accepted_record before None e = let z : ◌≡◌ {A = ℕ} 0 1 = cc in absurd (omega arith)

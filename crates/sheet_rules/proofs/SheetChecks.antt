@@ -1,4 +1,5 @@
 -- The check of a sheet in each of its ways out, what is known of a sheet that is accepted, and what it gives.
+use Rattle.std.proofs.Common.{Result, Ok, Err}
 use mathlib.Core.Path.{◌≡◌, refl, sym, ap, subst, ◌∙◌}
 use mathlib.Core.List.{List, []}
 use Prim.Native.Nat.{ℕ, suc}
@@ -20,47 +21,43 @@ use Rattle.sheet_rules.specs.Sheet.{after_header, after_walk, checked_sheet, gro
 use Rattle.sheet_rules.specs.Promises.{outcome_of, InGround, TrenchSaid, GivenBySheet, GivenAlone}
 use Rattle.sheet_rules.specs.declared.LoadRecord.{LoadRecord}
 use Rattle.sheet_rules.specs.declared.Header.{Header}
-use Rattle.sheet_rules.specs.declared.HeaderCheck.{HeaderCheck}
-use Rattle.sheet_rules.specs.declared.HeaderCheck.TheVariants.{Accepted, Refused}
 use Rattle.sheet_rules.specs.declared.Trench.{Trench}
-use Rattle.sheet_rules.specs.declared.TrenchCheck.TheVariants as T
-use Rattle.sheet_rules.specs.declared.ChainCheck.TheVariants as K
 use Rattle.sheet_rules.proofs.HeaderChecks.{accepted_header}
 use Rattle.sheet_rules.proofs.NeighbourChecks.{all_in_trench}
 
 -- ---- each way out
 
 -- by what a walk comes to
-after_refused : (w : Walk) (check : HeaderCheck) {f : Refusal} → outcome_of w ≡ K.Refused f → Refused f ≡ after_walk w check
+after_refused : (w : Walk) (check : Result Header Refusal) {f : Refusal} → outcome_of w ≡ Err f → Err f ≡ after_walk w check
 after_refused (reached rs) check e = let z : ◌≡◌ {A = ℕ} 0 1 = cc in absurd (omega arith)
 after_refused (refused g) check e = cc
 
-after_passed : (w : Walk) (check : HeaderCheck) → outcome_of w ≡ K.Passed → check ≡ after_walk w check
+after_passed : (w : Walk) (check : Result Header Refusal) → outcome_of w ≡ (Ok tt) → check ≡ after_walk w check
 after_passed (reached rs) check e = refl
 after_passed (refused g) check e = let z : ◌≡◌ {A = ℕ} 0 1 = cc in absurd (omega arith)
 
 module _ (s : List ℕ) where
-  pub header_refused : {f : Refusal} → checked_header s ≡ Refused f → Refused f ≡ checked_sheet s
+  pub header_refused : {f : Refusal} → checked_header s ≡ Err f → Err f ≡ checked_sheet s
   unfolding checked_sheet
   header_refused e = rw (e, checked_sheet)
 
-  module _ {h : Header} (e : checked_header s ≡ Accepted h) where
-    past_header : after_walk (load_walk s (origin s)) (after_walk (trench_of s) (Accepted (header_of s))) ≡ checked_sheet s
+  module _ {h : Header} (e : checked_header s ≡ Ok h) where
+    past_header : after_walk (load_walk s (origin s)) (after_walk (trench_of s) (Ok (header_of s))) ≡ checked_sheet s
     unfolding checked_sheet
     past_header = rw (e, checked_sheet)
 
-    pub load_refused : {f : Refusal} → outcome_of (load_walk s (origin s)) ≡ K.Refused f → Refused f ≡ checked_sheet s
+    pub load_refused : {f : Refusal} → outcome_of (load_walk s (origin s)) ≡ Err f → Err f ≡ checked_sheet s
     load_refused o = after_refused (load_walk s (origin s)) _ o ∙ past_header
 
-    module _ (p : outcome_of (load_walk s (origin s)) ≡ K.Passed) where
-      past_load : after_walk (trench_of s) (Accepted (header_of s)) ≡ checked_sheet s
+    module _ (p : outcome_of (load_walk s (origin s)) ≡ (Ok tt)) where
+      past_load : after_walk (trench_of s) (Ok (header_of s)) ≡ checked_sheet s
       past_load = after_passed (load_walk s (origin s)) _ p ∙ past_header
 
-      pub neighbours_refused : {f : Refusal} → outcome_of (trench_of s) ≡ K.Refused f → Refused f ≡ checked_sheet s
+      pub neighbours_refused : {f : Refusal} → outcome_of (trench_of s) ≡ Err f → Err f ≡ checked_sheet s
       neighbours_refused o = after_refused (trench_of s) _ o ∙ past_load
 
-      pub sheet_accepted : outcome_of (trench_of s) ≡ K.Passed → Accepted h ≡ checked_sheet s
-      sheet_accepted o = ap Accepted (accepted_header s e).is ∙ after_passed (trench_of s) _ o ∙ past_load
+      pub sheet_accepted : outcome_of (trench_of s) ≡ (Ok tt) → Ok h ≡ checked_sheet s
+      sheet_accepted o = ap Ok (accepted_header s e).is ∙ after_passed (trench_of s) _ o ∙ past_load
 
     -- the walks of the code begin at the header's own record, and at the one of its second link
     module _ {first : LoadRecord} where
@@ -74,34 +71,34 @@ module _ (s : List ℕ) where
 
 pub record SheetAccepted (s : List ℕ) (h : Header) : Type 0 where
   pub is : h ≡ header_of s
-  pub header : checked_header s ≡ Accepted (header_of s)
+  pub header : checked_header s ≡ Ok (header_of s)
   pub load : load_walk s (origin s) ≡ reached (records_in (load_walk s (origin s)))
   pub neighbours : trench_of s ≡ reached (records_in (trench_of s))
 
-by_checks : (s : List ℕ) (a : HeaderCheck) (l n : Walk) {h : Header} → checked_header s ≡ a → load_walk s (origin s) ≡ l → trench_of s ≡ n → after_header a (after_walk l (after_walk n (Accepted (header_of s)))) ≡ Accepted h → SheetAccepted s h
-by_checks s (Refused f) l n ea el en e = let z : ◌≡◌ {A = ℕ} 0 1 = cc in absurd (omega arith)
-by_checks s (Accepted g) (refused f) n ea el en e = let z : ◌≡◌ {A = ℕ} 0 1 = cc in absurd (omega arith)
-by_checks s (Accepted g) (reached rs) (refused f) ea el en e = let z : ◌≡◌ {A = ℕ} 0 1 = cc in absurd (omega arith)
-by_checks s (Accepted g) (reached rs) (reached ns) ea el en e =
+by_checks : (s : List ℕ) (a : Result Header Refusal) (l n : Walk) {h : Header} → checked_header s ≡ a → load_walk s (origin s) ≡ l → trench_of s ≡ n → after_header a (after_walk l (after_walk n (Ok (header_of s)))) ≡ Ok h → SheetAccepted s h
+by_checks s (Err f) l n ea el en e = let z : ◌≡◌ {A = ℕ} 0 1 = cc in absurd (omega arith)
+by_checks s (Ok g) (refused f) n ea el en e = let z : ◌≡◌ {A = ℕ} 0 1 = cc in absurd (omega arith)
+by_checks s (Ok g) (reached rs) (refused f) ea el en e = let z : ◌≡◌ {A = ℕ} 0 1 = cc in absurd (omega arith)
+by_checks s (Ok g) (reached rs) (reached ns) ea el en e =
     record {
       is = cc;
-      header = ea ∙ ap Accepted (accepted_header s ea).is;
+      header = ea ∙ ap Ok (accepted_header s ea).is;
       load = el ∙ ap (λ w. reached (records_in w)) (sym el);
       neighbours = en ∙ ap (λ w. reached (records_in w)) (sym en);
     }
 
-pub accepted_sheet : (s : List ℕ) {h : Header} → checked_sheet s ≡ Accepted h → SheetAccepted s h
+pub accepted_sheet : (s : List ℕ) {h : Header} → checked_sheet s ≡ Ok h → SheetAccepted s h
 unfolding checked_sheet
 accepted_sheet s e = by_checks s (checked_header s) (load_walk s (origin s)) (trench_of s) refl refl refl e
 
 -- ---- what it gives
 
 module _ (s : List ℕ) {g : Group} where
-  by_sheet : (a : HeaderCheck) → checked_sheet s ≡ a → after_sheet a (G.accepted (group_of s)) ≡ G.accepted g → checked_sheet s ≡ Accepted (header_of s)
-  by_sheet (Accepted h) e p = e ∙ ap Accepted (accepted_sheet s e).is
-  by_sheet (Refused f) e p = let z : ◌≡◌ {A = ℕ} 0 1 = cc in absurd (omega arith)
+  by_sheet : (a : Result Header Refusal) → checked_sheet s ≡ a → after_sheet a (G.accepted (group_of s)) ≡ G.accepted g → checked_sheet s ≡ Ok (header_of s)
+  by_sheet (Ok h) e p = e ∙ ap Ok (accepted_sheet s e).is
+  by_sheet (Err f) e p = let z : ◌≡◌ {A = ℕ} 0 1 = cc in absurd (omega arith)
 
-  pub given_sheet_lem : given_sheet s ≡ G.accepted g → checked_sheet s ≡ Accepted (header_of s)
+  pub given_sheet_lem : given_sheet s ≡ G.accepted g → checked_sheet s ≡ Ok (header_of s)
   unfolding given_sheet
   given_sheet_lem p = by_sheet (checked_sheet s) refl p
 
@@ -110,10 +107,10 @@ module _ (s : List ℕ) {g : Group} where
   unfolding given_sheet
   given_group p = let e : G.accepted (group_of s) ≡ G.accepted g = ap (λ a. after_sheet a (G.accepted (group_of s))) (sym (given_sheet_lem p)) ∙ p in cc
 
-cable_acceptable : (s : List ℕ) {h : Header} → checked_header s ≡ Accepted h → Acceptable (alone h.cable)
+cable_acceptable : (s : List ℕ) {h : Header} → checked_header s ≡ Ok h → Acceptable (alone h.cable)
 cable_acceptable s {h} e = accepted_in_range h.cable (ap (λ c. (stated_check c).number) (accepted_header s e).cable_accepted)
 
-pub in_ground : (s : List ℕ) {h : Header} → checked_header s ≡ Accepted h → InGround h.cable
+pub in_ground : (s : List ℕ) {h : Header} → checked_header s ≡ Ok h → InGround h.cable
 unfolding in_use
 in_ground s e = let n = (cable_acceptable s e).numbers in record { diameter_to = n.d_to; depth_to = n.l_to }
 
@@ -150,7 +147,7 @@ sheet_sound s g p = subst Acceptable (given_group s p) (group_acceptable s (acce
 
 -- in each way out
 module _ (s : List ℕ) where
-  pub given_by_header : {h : Header} → checked_sheet s ≡ Accepted h → {t : Trench} → TrenchSaid h t → GivenBySheet s (T.Accepted t)
+  pub given_by_header : {h : Header} → checked_sheet s ≡ Ok h → {t : Trench} → TrenchSaid h t → GivenBySheet s (Ok t)
   unfolding given_sheet
   given_by_header e {t} d =
       let a = accepted_sheet s e in
@@ -159,7 +156,7 @@ module _ (s : List ℕ) where
         laid = λ u i. let j : t ≡ u = cc in subst (Laid s) j (trench_laid s a d);
       }
 
-  pub refused_by_sheet : {f : Refusal} → checked_sheet s ≡ Refused f → GivenBySheet s (T.Refused f)
+  pub refused_by_sheet : {f : Refusal} → checked_sheet s ≡ Err f → GivenBySheet s (Err f)
   unfolding given_sheet
   refused_by_sheet e = record { answer = rw (e, given_sheet); laid = λ u i. let z : ◌≡◌ {A = ℕ} 0 1 = cc in absurd (omega arith) }
 
@@ -182,12 +179,12 @@ module _ (s : List ℕ) (used : Cable) where
 
 -- in each way out
 module _ (c : Cable) where
-  pub given_by_cable : {used : Cable} → given_cable c ≡ G.accepted (only used) → GivenAlone c (T.Accepted (record { cable = used; neighbours = 0 }))
+  pub given_by_cable : {used : Cable} → given_cable c ≡ G.accepted (only used) → GivenAlone c (Ok (record { cable = used; neighbours = 0 }))
   given_by_cable {used} p s =
       record {
         answer = ap G.accepted (no_neighbours s used) ∙ sym p;
         laid = λ u i. let j : ◌≡◌ {A = Trench} (record { cable = used; neighbours = 0 }) u = cc in subst (Laid s) j (alone_laid s used (given_sound c (only used) p));
       }
 
-  pub refused_by_cable : {f : Refusal} → given_cable c ≡ G.refused f → GivenAlone c (T.Refused f)
+  pub refused_by_cable : {f : Refusal} → given_cable c ≡ G.refused f → GivenAlone c (Err f)
   refused_by_cable p s = record { answer = sym p; laid = λ u i. let z : ◌≡◌ {A = ℕ} 0 1 = cc in absurd (omega arith) }

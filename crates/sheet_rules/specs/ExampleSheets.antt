@@ -1,12 +1,10 @@
 -- The bytes of sheets for the worked examples, and what is said of them. Cable A, or a cable that differs from it where an example says so.
-use Rattle.std.specs.Prelude.{List, [], ◌∷◌, ◌++◌, ℕ, ◌/◌, ◌%◌}
+use Rattle.std.specs.Prelude.{List, [], ◌∷◌, ◌++◌, ℕ, ◌/◌, ◌%◌, Result, Err}
 use Rattle.refusals.specs.declared.Refusal.{Refusal}
 use Rattle.refusals.specs.declared.Place.TheVariants as P
 use Rattle.cable_rules.specs.declared.Cable.{Cable}
 use Rattle.sheet_rules.specs.Chain.{Step}
 use Rattle.sheet_rules.specs.declared.Header.{Header}
-use Rattle.sheet_rules.specs.declared.HeaderCheck.{HeaderCheck}
-use Rattle.sheet_rules.specs.declared.HeaderCheck.TheVariants.{Refused}
 
 -- ---- the bytes of a sheet
 
@@ -61,5 +59,5 @@ step number minutes amperes = record { number = number; minutes = minutes; amper
 abbrev pub at_record : ℕ → ℕ → Refusal
 at_record number place = record { number = number; place = P.Record place }
 
-abbrev pub refused_none : ℕ → HeaderCheck
-refused_none number = Refused (record { number = number; place = P.None })
+abbrev pub refused_none : ℕ → Result Header Refusal
+refused_none number = Err (record { number = number; place = P.None })

@@ -1,15 +1,12 @@
 -- Document 01, 'The load sheet' and 'When the desk is told no': the header, and refusals 1 to 4 in their order.
-use Rattle.std.specs.Prelude.{cond, List, ℕ, ◌-◌, ◌*◌, ltb, length}
+use Rattle.std.specs.Prelude.{cond, List, ℕ, ◌-◌, ◌*◌, ltb, length, Result, Ok, Err}
 use Rattle.cable_rules.specs.Checks.{checked}
 use Rattle.cable_rules.specs.declared.Cable.{Cable}
 use Rattle.refusals.specs.declared.Place.TheVariants.{None}
-use Rattle.cable_rules.specs.declared.CableCheck.{CableCheck}
-use Rattle.cable_rules.specs.declared.CableCheck.TheVariants as C
 use Rattle.sheet_rules.specs.BigEndian.{big_endian}
 use Rattle.sheet_rules.specs.Layout.{short_header, is_long, wrong_length}
 use Rattle.sheet_rules.specs.declared.Header.{Header}
-use Rattle.sheet_rules.specs.declared.HeaderCheck.{HeaderCheck}
-use Rattle.sheet_rules.specs.declared.HeaderCheck.TheVariants.{Accepted, Refused}
+use Rattle.refusals.specs.declared.Refusal.{Refusal}
 
 -- "Eight fields of four bytes in table order, then two bytes for the starting current in A (0 to 4,000) and two for the first link"
 abbrev pub field_of : List ℕ → ℕ → ℕ
@@ -50,13 +47,13 @@ abbrev pub most_amperes : ℕ
 most_amperes = 4000
 
 -- what follows where checks 2 and 3 pass; their refusal passes out unchanged
-abbrev pub after_cable : CableCheck → HeaderCheck → HeaderCheck
-after_cable (C.Accepted c) check = check
-after_cable (C.Refused f) check = Refused f
+abbrev pub after_cable : Result Cable Refusal → Result Header Refusal → Result Header Refusal
+after_cable (Ok c) check = check
+after_cable (Err f) check = Err f
 
-unfoldable pub checked_header : List ℕ → HeaderCheck
+unfoldable pub checked_header : List ℕ → Result Header Refusal
 checked_header s =
-    cond (wrong_length (length s)) (Refused (record { number = 1; place = None }))
+    cond (wrong_length (length s)) (Err (record { number = 1; place = None }))
     (after_cable (checked (cable_of s))
-    (cond (ltb most_start (starting_current s)) (Refused (record { number = 4; place = None }))
-    (Accepted (header_of s))))
+    (cond (ltb most_start (starting_current s)) (Err (record { number = 4; place = None }))
+    (Ok (header_of s))))

@@ -1,5 +1,5 @@
 -- Document 02, note 2: the chain of neighbours of a sheet, or its first refusal, in the order 14, 15, 16 "for each neighbour in turn".
-use Rattle.std.specs.Prelude.{Bool, cond, ◌||◌, List, map, ℕ, suc, ◌*◌, ◌-◌, leb, ltb, ℤ, pos, negsuc, nat_abs}
+use Rattle.std.specs.Prelude.{Bool, cond, ◌||◌, List, map, ℕ, suc, ◌*◌, ◌-◌, leb, ltb, ℤ, pos, negsuc, nat_abs, Option, Some, None, Result, Ok}
 use Rattle.exact.specs.Share.{Neighbour, source_of}
 use Rattle.ranges.specs.Ranges.{outside, ◌to◌}
 use Rattle.sheet_rules.specs.Layout.{most_records}
@@ -7,10 +7,7 @@ use Rattle.sheet_rules.specs.Header.{cable_of, second_link}
 use Rattle.sheet_rules.specs.Records.{refused_at}
 use Rattle.sheet_rules.specs.Walk.{Walk, walk_from, records_in}
 use Rattle.sheet_rules.specs.declared.LoadRecord.{LoadRecord}
-use Rattle.sheet_rules.specs.declared.RecordRead.{RecordRead}
-use Rattle.sheet_rules.specs.declared.RecordRead.TheVariants.{Held, Missing}
-use Rattle.sheet_rules.specs.declared.RecordCheck.{RecordCheck}
-use Rattle.sheet_rules.specs.declared.RecordCheck.TheVariants.{Accepted}
+use Rattle.refusals.specs.declared.Refusal.{Refusal}
 
 -- "(two's complement)", of two bytes
 abbrev pub signed_of : ℕ → ℤ
@@ -40,13 +37,13 @@ too_near d l n = ltb (100 * (source_of l n).near) (d * d)
 
 -- 14: "a link above n or, unless 0, not above the record holding it (place that record, 0 for the header)", then "with the neighbour's record as place" 15 and
 -- 16; `before` is the record that holds the link
-unfoldable pub checked_neighbour : ℕ → ℕ → LoadRecord → RecordRead → RecordCheck
-checked_neighbour d l before Missing = refused_at 14 before.number
-checked_neighbour d l before (Held r) =
+unfoldable pub checked_neighbour : ℕ → ℕ → LoadRecord → Option LoadRecord → Result LoadRecord Refusal
+checked_neighbour d l before None = refused_at 14 before.number
+checked_neighbour d l before (Some r) =
     cond (leb r.number before.number) (refused_at 14 before.number)
     (cond (out_of_trench (neighbour_of r)) (refused_at 15 r.number)
     (cond (too_near d l (neighbour_of r)) (refused_at 16 r.number)
-    (Accepted r)))
+    (Ok r)))
 
 -- the header as the record that holds the second link: "0 for the header"
 abbrev pub beside_first : ℕ → LoadRecord

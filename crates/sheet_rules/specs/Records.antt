@@ -1,15 +1,12 @@
 -- Document 01, 'The load sheet' and 'When the desk is told no': a record, and refusals 5 to 8 in their order.
-use Rattle.std.specs.Prelude.{cond, List, ℕ, suc, ◌+◌, eqb, leb, ltb, length}
+use Rattle.std.specs.Prelude.{cond, List, ℕ, suc, ◌+◌, eqb, leb, ltb, length, Option, Some, None, Result, Ok, Err}
 use Rattle.ranges.specs.Ranges.{outside, ◌to◌}
 use Rattle.refusals.specs.declared.Place.TheVariants as P
 use Rattle.sheet_rules.specs.BigEndian.{big_endian}
 use Rattle.sheet_rules.specs.Layout.{record_start, record_count, wrong_length}
 use Rattle.sheet_rules.specs.Header.{starting_current, first_link, most_amperes}
 use Rattle.sheet_rules.specs.declared.LoadRecord.{LoadRecord}
-use Rattle.sheet_rules.specs.declared.RecordRead.{RecordRead}
-use Rattle.sheet_rules.specs.declared.RecordRead.TheVariants.{Held, Missing}
-use Rattle.sheet_rules.specs.declared.RecordCheck.{RecordCheck}
-use Rattle.sheet_rules.specs.declared.RecordCheck.TheVariants.{Accepted, Refused}
+use Rattle.refusals.specs.declared.Refusal.{Refusal}
 
 -- "minutes before now (1 to 2,880)"
 abbrev pub least_minutes : ℕ
@@ -37,21 +34,21 @@ abbrev pub origin : List ℕ → LoadRecord
 origin s = before_first (starting_current s) (first_link s)
 
 -- What is read at a number: the header at 0, and nothing above the number of records or where the length is wrong.
-unfoldable pub record_at : List ℕ → ℕ → RecordRead
+unfoldable pub record_at : List ℕ → ℕ → Option LoadRecord
 record_at s k =
-    cond (wrong_length (length s)) Missing
-    (cond (ltb (record_count (length s)) k) Missing
-    (cond (eqb k 0) (Held (origin s))
-    (Held (record_of s k))))
+    cond (wrong_length (length s)) None
+    (cond (ltb (record_count (length s)) k) None
+    (cond (eqb k 0) (Some (origin s))
+    (Some (record_of s k))))
 
-abbrev pub refused_at : ℕ → ℕ → RecordCheck
-refused_at number place = Refused (record { number = number; place = P.Record place })
+abbrev pub refused_at : ℕ → ℕ → Result LoadRecord Refusal
+refused_at number place = Err (record { number = number; place = P.Record place })
 
 -- "for each record in turn 5 for the link that leads to it, 6, 7, 8"; `before` is the record that holds the link
-unfoldable pub checked_record : LoadRecord → RecordRead → RecordCheck
-checked_record before Missing = refused_at 5 before.number
-checked_record before (Held r) =
+unfoldable pub checked_record : LoadRecord → Option LoadRecord → Result LoadRecord Refusal
+checked_record before None = refused_at 5 before.number
+checked_record before (Some r) =
     cond (outside (least_minutes to most_minutes) r.minutes) (refused_at 6 r.number)
     (cond (ltb most_amperes r.amperes) (refused_at 7 r.number)
     (cond (leb before.minutes r.minutes) (refused_at 8 r.number)
-    (Accepted r)))
+    (Ok r)))

@@ -1,5 +1,5 @@
 -- Document 02, note 2: all checks of a sheet in their order, and what it gives a calculation.
-use Rattle.std.specs.Prelude.{◌≡◌, List, ℕ}
+use Rattle.std.specs.Prelude.{◌≡◌, List, ℕ, Result, Ok, Err}
 use Rattle.cable_rules.specs.Group.{Group, Given, accepted, in_trench}
 use Rattle.cable_rules.specs.Group as G
 use Rattle.cable_rules.specs.InRange.{Acceptable}
@@ -9,32 +9,30 @@ use Rattle.sheet_rules.specs.Walk.{Walk, reached, refused, records_in}
 use Rattle.sheet_rules.specs.Chain.{load_walk}
 use Rattle.sheet_rules.specs.Neighbours.{beside_first, neighbour_walk, neighbours_in, trench_of}
 use Rattle.sheet_rules.specs.declared.Trench.{Trench}
-use Rattle.sheet_rules.specs.declared.TrenchCheck.{TrenchCheck}
-use Rattle.sheet_rules.specs.declared.TrenchCheck.TheVariants as T
-use Rattle.sheet_rules.specs.declared.HeaderCheck.{HeaderCheck}
-use Rattle.sheet_rules.specs.declared.HeaderCheck.TheVariants.{Accepted, Refused}
+use Rattle.refusals.specs.declared.Refusal.{Refusal}
+use Rattle.sheet_rules.specs.declared.Header.{Header}
 
 -- what follows where a check passes; its refusal passes out unchanged
-abbrev pub after_header : HeaderCheck → HeaderCheck → HeaderCheck
-after_header (Accepted h) check = check
-after_header (Refused f) check = Refused f
+abbrev pub after_header : Result Header Refusal → Result Header Refusal → Result Header Refusal
+after_header (Ok h) check = check
+after_header (Err f) check = Err f
 
-abbrev pub after_walk : Walk → HeaderCheck → HeaderCheck
+abbrev pub after_walk : Walk → Result Header Refusal → Result Header Refusal
 after_walk (reached rs) check = check
-after_walk (refused f) check = Refused f
+after_walk (refused f) check = Err f
 
 -- "After all checks of the load chain come, for each neighbour in turn, 14 [..], 15 [..] and 16"
-unfoldable pub checked_sheet : List ℕ → HeaderCheck
-checked_sheet s = after_header (checked_header s) (after_walk (load_walk s (origin s)) (after_walk (trench_of s) (Accepted (header_of s))))
+unfoldable pub checked_sheet : List ℕ → Result Header Refusal
+checked_sheet s = after_header (checked_header s) (after_walk (load_walk s (origin s)) (after_walk (trench_of s) (Ok (header_of s))))
 
 -- "Most of our trenches hold three or more cables with equal losses, and the hottest one must be rated": the cable of the header, with its neighbours
 abbrev pub group_of : List ℕ → Group
 group_of s = in_trench (cable_of s) (neighbours_in (trench_of s))
 
 -- what is given where all of a sheet passes; its refusal passes out unchanged
-abbrev pub after_sheet : HeaderCheck → Given → Given
-after_sheet (Accepted h) given = given
-after_sheet (Refused f) given = G.refused f
+abbrev pub after_sheet : Result Header Refusal → Given → Given
+after_sheet (Ok h) given = given
+after_sheet (Err f) given = G.refused f
 
 -- "Share, cycle and emergency current can take cable and neighbours from such a sheet, whose refusals then precede their own"
 unfoldable pub given_sheet : List ℕ → Given
@@ -54,10 +52,10 @@ pub record Laid (s : List ℕ) (t : Trench) : Type 0 where
   pub records : walk_in s t ≡ reached (records_in (walk_in s t))
 
 -- a check's trench as what is given
-abbrev pub as_given_in : List ℕ → TrenchCheck → Given
-as_given_in s (T.Accepted t) = accepted (group_in s t)
-as_given_in s (T.Refused f) = G.refused f
+abbrev pub as_given_in : List ℕ → Result Trench Refusal → Given
+as_given_in s (Ok t) = accepted (group_in s t)
+as_given_in s (Err f) = G.refused f
 
 -- where a check accepts, all of it is accepted
-abbrev pub OnlyLaid : List ℕ → TrenchCheck → Type 0
-OnlyLaid s r = (t : Trench) → r ≡ T.Accepted t → Laid s t
+abbrev pub OnlyLaid : List ℕ → Result Trench Refusal → Type 0
+OnlyLaid s r = (t : Trench) → r ≡ Ok t → Laid s t

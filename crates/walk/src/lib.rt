@@ -1,41 +1,47 @@
 // One turn of the walk along the load chain. Document 01, 'The load sheet'; document 02, note 2.
 #![tactic(auto)]
 
-ghost use Rattle.std.specs.Prelude.{◌≡◌};
+ghost use Rattle.std.specs.Prelude.{◌≡◌, Ok};
 ghost use Rattle.share_rules.specs.Pair.{share_pair};
 ghost use Rattle.sheet_rules.specs.Sheet.{group_in};
 ghost use Rattle.history_rules.specs.Walk.{Turning, StepTo, next_at, turn_of};
-ghost use Rattle.history_rules.specs.declared.Turn.TheVariants.{Next};
 
-use history_rules::{Reached, Turn};
+use history_rules::Reached;
+use refusals::Refusal;
 use share_rules::ShareAnswer;
-use sheet_rules::{LoadRecord, RecordCheck, RecordRead, Trench};
+use sheet_rules::{LoadRecord, Trench};
 
 // One turn of the walk: what was read at the link is checked, and the change of its step times its share is added; or its refusal is handed out.
-pub fn step(sheet: &[u8], trench: Trench, at: Reached, read: RecordRead) -> Turn
+pub fn step(
+    sheet: &[u8],
+    trench: Trench,
+    at: Reached,
+    read: Option<LoadRecord>,
+) -> Result<Reached, Refusal>
     requires { Turning sheet.now trench at }
     ensures { result ≡ turn_of (share_pair (group_in sheet.now trench)) at read }
 {
-    let last = at.last;
-    let checked = records::check_record(last, read);
-    match checked {
-        RecordCheck::Refused(refusal) => Turn::Refused(refusal),
-        RecordCheck::Accepted(next) => step_to(sheet, trench, at, next),
-    }
+    let next = records::check_record(at.last, read)?;
+    step_to(sheet, trench, at, next)
 }
 
 // The turn to a record that was checked. Its minutes are those of a share, so the share is not refused.
-fn step_to(sheet: &[u8], trench: Trench, at: Reached, next: LoadRecord) -> Turn
+fn step_to(
+    sheet: &[u8],
+    trench: Trench,
+    at: Reached,
+    next: LoadRecord,
+) -> Result<Reached, Refusal>
     requires { (Turning sheet.now trench at) × (StepTo next) }
-    ensures { result ≡ Next (next_at (share_pair (group_in sheet.now trench)) at next) }
+    ensures { result ≡ Ok (next_at (share_pair (group_in sheet.now trench)) at next) }
 {
     let answer = share::share_of(sheet, trench, next.minutes);
     let ShareAnswer::Pair(pair) = answer else {
-        return Turn::Refused(refusals::refusal_in(share::parts(answer)));
+        return Err(Refusal::from(share::parts(answer)));
     };
     let last = at.last;
     let sum = at.sum;
-    Turn::Next(Reached {
+    Ok(Reached {
         last: next,
         sum: sum.add(heat::change(last.amperes, next.amperes).mul(pair)),
     })

@@ -3,16 +3,14 @@ use borrow.Author.Tests.{lt-ltb, le-ltb}
 use Rattle.cable_rules.specs.Checks.{checked}
 use Rattle.cable.proofs.check_cable.Goals as goal
 
-pub returns-then-field-gt0 : goal.returns-then-field-gt0
+pub returns-in-Some : goal.returns-in-Some
 unfolding checked
-returns-then-field-gt0 c = record { answer = simp (← c.outside_field-field.ensures, lt-ltb _ _ c.if-field-gt0.true) }
+returns-in-Some c = record { answer = simp (← c.outside_field.ensures, c.in-Some.is) }
 
 pub returns-then-cable : goal.returns-then-cable
 unfolding checked
-returns-then-cable c =
-    record { answer = simp (← c.outside_field-field.ensures, le-ltb _ _ c.if-field-gt0.false, lt-ltb _ _ c.if-cable.true) }
+returns-then-cable c = record { answer = simp (← c.outside_field.ensures, c.in_default.is, lt-ltb _ _ c.if-cable.true) }
 
 pub returns : goal.returns
 unfolding checked
-returns c =
-    record { answer = simp (← c.outside_field-field.ensures, le-ltb _ _ c.if-field-gt0.false, le-ltb _ _ c.if-cable.false) }
+returns c = record { answer = simp (← c.outside_field.ensures, c.in_default.is, le-ltb _ _ c.if-cable.false) }

@@ -5,10 +5,10 @@ use Rattle.cycle_rules.proofs.Answers.{answer_given, answer_refused}
 use Rattle.cycle.proofs.factor_given.Goals as goal
 
 pub factor_of-requires : goal.factor_of-requires
-factor_of-requires c = c.requires _ c.in-Accepted.is
+factor_of-requires c = c.requires _ c.in-Ok.is
 
-pub returns-in-Accepted : goal.returns-in-Accepted
-returns-in-Accepted c = answer_given _ (ap (as_given_in _) c.in-Accepted.is) c.factor_of.ensures
+pub returns-in-Ok : goal.returns-in-Ok
+returns-in-Ok c = answer_given _ (ap (as_given_in _) c.in-Ok.is) c.factor_of.ensures
 
-pub returns-in-Refused : goal.returns-in-Refused
-returns-in-Refused c = answer_refused _ (ap (as_given_in _) c.in-Refused.is)
+pub returns-in-Err : goal.returns-in-Err
+returns-in-Err c = answer_refused _ (ap (as_given_in _) c.in-Err.is)

@@ -7,14 +7,14 @@ use Rattle.cycle_rules.specs.Day.{day_hours}
 use Rattle.cycle_rules.proofs.Answers.{hour_refused, nothing_refused, factor_given}
 use Rattle.cycle.proofs.factor_of.Goals as goal
 
-pub returns-then-above-lt-DAY_HOURS : goal.returns-then-above-lt-DAY_HOURS
-returns-then-above-lt-DAY_HOURS c = hour_refused _ _ c.first_above-above.ensures c.if-above-lt-DAY_HOURS.true
+pub returns-in-Some : goal.returns-in-Some
+returns-in-Some c = hour_refused _ _ (sym c.first_above.ensures.answer ∙ c.in-Some.is)
 
 pub returns-then-highest_load-eq0 : goal.returns-then-highest_load-eq0
 returns-then-highest_load-eq0 c =
     let day = good_length (e_int w16) day_hours c.args.hours _ c.well_formed.1.1.0 in
-    nothing_refused _ _ c.first_above-above.ensures c.if-above-lt-DAY_HOURS.false day (sym c.highest_load.ensures ∙ c.if-highest_load-eq0.true)
+    nothing_refused _ _ (sym c.first_above.ensures.answer ∙ c.in_default.is) day (sym c.highest_load.ensures ∙ c.if-highest_load-eq0.true)
 
 pub returns : goal.returns
 returns c =
-    factor_given _ _ c.first_above-above.ensures c.if-above-lt-DAY_HOURS.false (omega arith) c.factor_of_day.ensures
+    factor_given _ _ (sym c.first_above.ensures.answer ∙ c.in_default.is) (omega arith) c.factor_of_day.ensures

@@ -1,39 +1,34 @@
--- The loop's invariant: `number` is that of the bytes passed. The measure is what is left of the width.
-use mathlib.Core.Path.{◌≡◌, refl, ap, ◌∙◌}
-use Prim.Native.Nat.{◌+◌, ◌^◌, ◌<◌}
-use native.Mathlib.Omega.{arith}
+-- The loop's invariant: `number` is that of the bytes passed.
+use Rattle.std.proofs.Common.{◌≡◌, ◌+◌, ◌-◌, ◌^◌, ◌<◌, get_or, drop, refl, ◌∙◌, rules, arith}
+use Rattle.std.proofs.lemmas.List.{get_or-drop, get_or-take}
 use Rattle.sheet_rules.specs.BigEndian.{big_endian}
 use Rattle.sheet_rules.proofs.BigEndian.{one_byte_more, below_wider}
 use Rattle.header.proofs.number_at.Goals as goal
 
-pub loop-i-init : goal.loop-i-init
+pub loop-byte-init : goal.loop-byte-init
 unfolding big_endian
-loop-i-init c = (omega arith, refl)
+loop-byte-init c = refl
 
 pub overflow_mul-number : goal.overflow_mul-number
 overflow_mul-number c =
-    let room : c.loop-i.number < 256 ^ 3 = let v = c.loop-i in
-    rw v.invariant.1
-    (below_wider c.args.sheet.now c.args.at (λ i. omega (arith, c.shared_slice_known-1.given i)) v.i 3 (omega arith)) in
+    let v = c.loop-byte in
+    let within : v.byte-index < c.args.width = search rules in
+    let room : v.number < 256 ^ 3 =
+    rw v.invariant (below_wider c.args.sheet.now c.args.at (λ i. search rules) v.byte-index 3 (omega arith)) in
     omega (arith, room)
-
-pub of_byte-requires : goal.of_byte-requires
-of_byte-requires c = tt
 
 pub overflow_add-number : goal.overflow_add-number
 overflow_add-number c =
-    let room : c.loop-i.number < 256 ^ 3 = let v = c.loop-i in
-    rw v.invariant.1
-    (below_wider c.args.sheet.now c.args.at (λ i. omega (arith, c.shared_slice_known-1.given i)) v.i 3 (omega arith)) in
-    omega (arith, room, c.shared_slice_known-in-loop-i-1.given (c.args.at + c.loop-i.i))
+    let v = c.loop-byte in
+    let within : v.byte-index < c.args.width = search rules in
+    let room : v.number < 256 ^ 3 =
+    rw v.invariant (below_wider c.args.sheet.now c.args.at (λ i. search rules) v.byte-index 3 (omega arith)) in
+    search (rules, room)
 
-pub loop-i-preserved : goal.loop-i-preserved
-loop-i-preserved c =
-    let v = c.loop-i in
-    (omega arith, rw (one_byte_more c.args.sheet.now c.args.at v.i) (cc))
-
-pub returns : goal.returns
-returns c =
-    let v = c.loop-i in
-    let e : v.i ≡ c.args.width = omega arith in
-    v.invariant.1 ∙ ap (big_endian c.args.sheet.now c.args.at) e
+pub loop-byte-preserved : goal.loop-byte-preserved
+loop-byte-preserved c =
+    let v = c.loop-byte in
+    let within : v.byte-index < c.args.at + c.args.width - c.args.at = search rules in
+    let byte_is : c.from.result ≡ get_or c.args.sheet.now (c.args.at + v.byte-index) 0 =
+    search rules ∙ get_or-take _ (drop c.args.at c.args.sheet.now) v.byte-index 0 within ∙ get_or-drop c.args.at c.args.sheet.now v.byte-index 0 in
+    rw (one_byte_more c.args.sheet.now c.args.at v.byte-index, byte_is, v.invariant) refl

@@ -9,12 +9,12 @@ end_exp-decay-requires c = c.requires.at_knot
 
 pub heat_slice-requires : goal.heat_slice-requires
 heat_slice-requires c =
-    cut_is_slice c.args.near c.args.far c.requires.slice c.greatest-start.ensures c.least-end.ensures (omega arith) c.end_exp-decay.ensures
+    cut_is_slice c.args.near c.args.far c.requires.slice c.max-start.ensures c.min-end.ensures (omega arith) c.end_exp-decay.ensures
 
 pub returns-then-start-end : goal.returns-then-start-end
 returns-then-start-end c =
-    c.heat_slice.ensures ∙ cut_some c.args.near c.args.far c.requires.slice c.greatest-start.ensures c.least-end.ensures (omega arith)
+    c.heat_slice.ensures ∙ cut_some c.args.near c.args.far c.requires.slice c.max-start.ensures c.min-end.ensures (omega arith)
 
 pub returns-else-start-end : goal.returns-else-start-end
 returns-else-start-end c =
-    c.whole.ensures.is ∙ cut_none c.args.near c.args.far c.requires.slice c.greatest-start.ensures c.least-end.ensures (omega arith)
+    c.whole.ensures.is ∙ cut_none c.args.near c.args.far c.requires.slice c.max-start.ensures c.min-end.ensures (omega arith)

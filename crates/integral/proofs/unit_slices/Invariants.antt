@@ -2,8 +2,5 @@
 use Rattle.integral.proofs.Turns.{UnitTurn}
 use Rattle.integral.proofs.unit_slices.Given as goal
 
-abbrev pub invariant-loop-y : goal.invariant-loop-y
-invariant-loop-y l = UnitTurn l.near l.far l.diffusion l.top l.initial.sum l.sum l.y l.i
-
-abbrev pub decreases-loop-y : goal.decreases-loop-y
-decreases-loop-y l = l.y
+abbrev pub invariant-loop-i : goal.invariant-loop-i
+invariant-loop-i l = UnitTurn l.near l.far l.diffusion l.top l.initial.sum l.sum l.y l.i

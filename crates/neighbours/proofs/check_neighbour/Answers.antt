@@ -14,55 +14,55 @@ pub returns-in_default : goal.returns-in_default
 returns-in_default c = record { answer = c.refused_at.ensures ∙ link_missing _ _ _ c.in_default.is }
 
 pub returns-then-record-holder : goal.returns-then-record-holder
-returns-then-record-holder c = record { answer = c.refused_at-then-record-holder.ensures ∙ link_not_above _ _ _ c.in-Held.is c.if-record-holder.true }
+returns-then-record-holder c = record { answer = c.refused_at-then-record-holder.ensures ∙ link_not_above _ _ _ c.in-Some.is c.if-record-holder.true }
 
 pub returns-then-aside-gt-MOST_OFFSET : goal.returns-then-aside-gt-MOST_OFFSET
 returns-then-aside-gt-MOST_OFFSET c =
     record {
       answer =
           c.refused_at-then-aside-gt-MOST_OFFSET.ensures
-          ∙ offset_refused _ _ _ c.in-Held.is c.if-record-holder.false (rw c.aside.ensures.0 at c.if-aside-gt-MOST_OFFSET.true);
+          ∙ offset_refused _ _ _ c.in-Some.is c.if-record-holder.false (rw c.aside.ensures.0 at c.if-aside-gt-MOST_OFFSET.true);
     }
 
 pub returns-then-outside : goal.returns-then-outside
 returns-then-outside c =
-    let offset_within : nat_abs (neighbour_of c.in-Held.record).offset ≤ most_offset = rw c.aside.ensures.0 at c.if-aside-gt-MOST_OFFSET.false in
+    let offset_within : nat_abs (neighbour_of c.in-Some.record).offset ≤ most_offset = rw c.aside.ensures.0 at c.if-aside-gt-MOST_OFFSET.false in
     record {
       answer =
           c.refused_at-then-outside.ensures
-          ∙ depth_refused _ _ _ c.in-Held.is c.if-record-holder.false offset_within (sym c.outside.ensures ∙ c.if-outside.true);
+          ∙ depth_refused _ _ _ c.in-Some.is c.if-record-holder.false offset_within (sym c.outside.ensures ∙ c.if-outside.true);
     }
 
 pub near_of-requires : goal.near_of-requires
 near_of-requires c =
-    let depth_within : outside (least_depth to most_depth) c.in-Held.record.amperes ≡ false = sym c.outside.ensures ∙ c.if-outside.false in
-    let depth_most : c.in-Held.record.amperes ≤ most_depth = (passed_within least_depth most_depth _ depth_within).1 in
+    let depth_within : outside (least_depth to most_depth) c.in-Some.record.amperes ≡ false = sym c.outside.ensures ∙ c.if-outside.false in
+    let depth_most : c.in-Some.record.amperes ≤ most_depth = (passed_within least_depth most_depth _ depth_within).1 in
     (c.requires.depth_to, depth_most)
 
 pub overflow_mul-near_of : goal.overflow_mul-near_of
 overflow_mul-near_of c =
-    let offset_within : nat_abs (neighbour_of c.in-Held.record).offset ≤ most_offset = rw c.aside.ensures.0 at c.if-aside-gt-MOST_OFFSET.false in
-    let depth_within : outside (least_depth to most_depth) c.in-Held.record.amperes ≡ false = sym c.outside.ensures ∙ c.if-outside.false in
-    let depth_most : c.in-Held.record.amperes ≤ most_depth = (passed_within least_depth most_depth _ depth_within).1 in
-    omega (arith, c.near_of.ensures, near_most _ c.in-Held.record c.requires.depth_to offset_within depth_most)
+    let offset_within : nat_abs (neighbour_of c.in-Some.record).offset ≤ most_offset = rw c.aside.ensures.0 at c.if-aside-gt-MOST_OFFSET.false in
+    let depth_within : outside (least_depth to most_depth) c.in-Some.record.amperes ≡ false = sym c.outside.ensures ∙ c.if-outside.false in
+    let depth_most : c.in-Some.record.amperes ≤ most_depth = (passed_within least_depth most_depth _ depth_within).1 in
+    omega (arith, c.near_of.ensures, near_most _ c.in-Some.record c.requires.depth_to offset_within depth_most)
 
 pub returns-then-near_of-square : goal.returns-then-near_of-square
 returns-then-near_of-square c =
-    let offset_within : nat_abs (neighbour_of c.in-Held.record).offset ≤ most_offset = rw c.aside.ensures.0 at c.if-aside-gt-MOST_OFFSET.false in
-    let depth_within : outside (least_depth to most_depth) c.in-Held.record.amperes ≡ false = sym c.outside.ensures ∙ c.if-outside.false in
+    let offset_within : nat_abs (neighbour_of c.in-Some.record).offset ≤ most_offset = rw c.aside.ensures.0 at c.if-aside-gt-MOST_OFFSET.false in
+    let depth_within : outside (least_depth to most_depth) c.in-Some.record.amperes ≡ false = sym c.outside.ensures ∙ c.if-outside.false in
     record {
       answer =
           c.refused_at-then-near_of-square.ensures
-          ∙ near_refused _ _ _ c.in-Held.is c.if-record-holder.false offset_within depth_within
+          ∙ near_refused _ _ _ c.in-Some.is c.if-record-holder.false offset_within depth_within
           (rw (c.square.ensures, c.near_of.ensures) at c.if-near_of-square.true);
     }
 
 pub returns : goal.returns
 returns c =
-    let offset_within : nat_abs (neighbour_of c.in-Held.record).offset ≤ most_offset = rw c.aside.ensures.0 at c.if-aside-gt-MOST_OFFSET.false in
-    let depth_within : outside (least_depth to most_depth) c.in-Held.record.amperes ≡ false = sym c.outside.ensures ∙ c.if-outside.false in
+    let offset_within : nat_abs (neighbour_of c.in-Some.record).offset ≤ most_offset = rw c.aside.ensures.0 at c.if-aside-gt-MOST_OFFSET.false in
+    let depth_within : outside (least_depth to most_depth) c.in-Some.record.amperes ≡ false = sym c.outside.ensures ∙ c.if-outside.false in
     record {
       answer =
-          neighbour_accepted _ _ _ c.in-Held.is c.if-record-holder.false offset_within depth_within
+          neighbour_accepted _ _ _ c.in-Some.is c.if-record-holder.false offset_within depth_within
           (rw (c.square.ensures, c.near_of.ensures) at c.if-near_of-square.false);
     }

@@ -33,23 +33,23 @@ returns-in_default c =
 
 pub near_of-near-requires : goal.near_of-near-requires
 near_of-near-requires c =
-    depths c.loop-at.invariant c.loop-at-test.true c.record_at-read.ensures.answer c.in-Held.is
+    depths c.loop-at.invariant c.loop-at-test.true c.record_at-read.ensures.answer c.in-Some.is
 
 pub image_of-image-requires : goal.image_of-image-requires
 image_of-image-requires c =
-    depths c.loop-at.invariant c.loop-at-test.true c.record_at-read.ensures.answer c.in-Held.is
+    depths c.loop-at.invariant c.loop-at-test.true c.record_at-read.ensures.answer c.in-Some.is
 
 pub joined-sums-requires : goal.joined-sums-requires
 joined-sums-requires c =
-    joining c.loop-at.invariant c.loop-at-test.true c.record_at-read.ensures.answer c.in-Held.is c.near_of-near.ensures c.image_of-image.ensures
+    joining c.loop-at.invariant c.loop-at-test.true c.record_at-read.ensures.answer c.in-Some.is c.near_of-near.ensures c.image_of-image.ensures
 
 pub loop-at-smaller : goal.loop-at-smaller
 loop-at-smaller c =
-    nearer c.loop-at.invariant c.loop-at-test.true c.record_at-read.ensures.answer c.in-Held.is
+    nearer c.loop-at.invariant c.loop-at-test.true c.record_at-read.ensures.answer c.in-Some.is
 
 pub loop-at-preserved : goal.loop-at-preserved
 loop-at-preserved c =
-    joined_next c.loop-at.invariant c.loop-at-test.true c.record_at-read.ensures.answer c.in-Held.is c.near_of-near.ensures c.image_of-image.ensures c.joined-sums.ensures
+    joined_next c.loop-at.invariant c.loop-at-test.true c.record_at-read.ensures.answer c.in-Some.is c.near_of-near.ensures c.image_of-image.ensures c.joined-sums.ensures
 
 pub returns : goal.returns
 returns c =

@@ -11,19 +11,19 @@ returns-in_default c = record { answer = c.refused_at.ensures ∙ link_refused _
 
 pub returns-then-outside : goal.returns-then-outside
 returns-then-outside c =
-    record { answer = c.refused_at-then-outside.ensures ∙ minutes_refused _ c.in-Held.is (sym c.outside.ensures ∙ c.if-outside.true) }
+    record { answer = c.refused_at-then-outside.ensures ∙ minutes_refused _ c.in-Some.is (sym c.outside.ensures ∙ c.if-outside.true) }
 
 pub returns-then-record-gt-MOST_AMPERES : goal.returns-then-record-gt-MOST_AMPERES
 returns-then-record-gt-MOST_AMPERES c =
-    let within : outside (least_minutes to most_minutes) c.in-Held.record.minutes ≡ false = sym c.outside.ensures ∙ c.if-outside.false in
-    record { answer = c.refused_at-then-record-gt-MOST_AMPERES.ensures ∙ amperes_refused _ c.in-Held.is within c.if-record-gt-MOST_AMPERES.true }
+    let within : outside (least_minutes to most_minutes) c.in-Some.record.minutes ≡ false = sym c.outside.ensures ∙ c.if-outside.false in
+    record { answer = c.refused_at-then-record-gt-MOST_AMPERES.ensures ∙ amperes_refused _ c.in-Some.is within c.if-record-gt-MOST_AMPERES.true }
 
 pub returns-then-before-record : goal.returns-then-before-record
 returns-then-before-record c =
-    let within : outside (least_minutes to most_minutes) c.in-Held.record.minutes ≡ false = sym c.outside.ensures ∙ c.if-outside.false in
-    record { answer = c.refused_at-then-before-record.ensures ∙ order_refused _ c.in-Held.is within c.if-record-gt-MOST_AMPERES.false c.if-before-record.true }
+    let within : outside (least_minutes to most_minutes) c.in-Some.record.minutes ≡ false = sym c.outside.ensures ∙ c.if-outside.false in
+    record { answer = c.refused_at-then-before-record.ensures ∙ order_refused _ c.in-Some.is within c.if-record-gt-MOST_AMPERES.false c.if-before-record.true }
 
 pub returns : goal.returns
 returns c =
-    let within : outside (least_minutes to most_minutes) c.in-Held.record.minutes ≡ false = sym c.outside.ensures ∙ c.if-outside.false in
-    record { answer = record_accepted _ c.in-Held.is within c.if-record-gt-MOST_AMPERES.false c.if-before-record.false }
+    let within : outside (least_minutes to most_minutes) c.in-Some.record.minutes ≡ false = sym c.outside.ensures ∙ c.if-outside.false in
+    record { answer = record_accepted _ c.in-Some.is within c.if-record-gt-MOST_AMPERES.false c.if-before-record.false }

@@ -1,11 +1,11 @@
 -- Each return is one of the definition's ways out.
+use Rattle.std.proofs.Common.{Some}
 use mathlib.Core.Path.{◌≡◌, sym, ap, ◌∙◌}
 use mathlib.Core.Bool.{false}
 use Prim.Native.Nat.{◌≤◌}
 use native.Mathlib.Omega.{arith}
 use lib.ListN.{length}
 use Rattle.sheet_rules.specs.Layout.{wrong_length, record_count}
-use Rattle.sheet_rules.specs.declared.RecordRead.TheVariants.{Held}
 use Rattle.sheet_rules.proofs.RightLength.{right_length}
 use Rattle.sheet_rules.proofs.RecordChecks.{no_records, above_count, header_held, record_held}
 use Rattle.records.proofs.record_at.Goals as goal
@@ -32,7 +32,7 @@ pub returns-then-number-eq0 : goal.returns-then-number-eq0
 returns-then-number-eq0 c =
     let passed : wrong_length (length c.args.sheet.now) ≡ false = sym c.wrong_length.ensures ∙ c.if-wrong_length.false in
     let within : c.args.number ≤ record_count (length c.args.sheet.now) = omega (arith, c.record_count.ensures, c.if-record_count-number.false) in
-    record { answer = ap Held (cc) ∙ header_held _ _ passed within c.if-number-eq0.true }
+    record { answer = ap Some (cc) ∙ header_held _ _ passed within c.if-number-eq0.true }
 
 pub held_record-requires : goal.held_record-requires
 held_record-requires c =
@@ -45,4 +45,4 @@ pub returns : goal.returns
 returns c =
     let passed : wrong_length (length c.args.sheet.now) ≡ false = sym c.wrong_length.ensures ∙ c.if-wrong_length.false in
     let within : c.args.number ≤ record_count (length c.args.sheet.now) = omega (arith, c.record_count.ensures, c.if-record_count-number.false) in
-    record { answer = ap Held c.held_record.ensures ∙ record_held _ _ passed within c.if-number-eq0.false }
+    record { answer = ap Some c.held_record.ensures ∙ record_held _ _ passed within c.if-number-eq0.false }

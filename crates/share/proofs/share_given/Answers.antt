@@ -5,10 +5,10 @@ use Rattle.share_rules.proofs.Answers.{answer_given, answer_refused}
 use Rattle.share.proofs.share_given.Goals as goal
 
 pub share_of-requires : goal.share_of-requires
-share_of-requires c = c.requires _ c.in-Accepted.is
+share_of-requires c = c.requires _ c.in-Ok.is
 
-pub returns-in-Accepted : goal.returns-in-Accepted
-returns-in-Accepted c = answer_given _ (ap (as_given_in _) c.in-Accepted.is) c.share_of.ensures
+pub returns-in-Ok : goal.returns-in-Ok
+returns-in-Ok c = answer_given _ (ap (as_given_in _) c.in-Ok.is) c.share_of.ensures
 
-pub returns-in-Refused : goal.returns-in-Refused
-returns-in-Refused c = answer_refused _ (ap (as_given_in _) c.in-Refused.is)
+pub returns-in-Err : goal.returns-in-Err
+returns-in-Err c = answer_refused _ (ap (as_given_in _) c.in-Err.is)

@@ -1,13 +1,14 @@
 -- Case by case, what the check of the cable gives. Assumes nothing.
-use mathlib.Core.Path.{sym, ap, ◌∙◌}
+use Rattle.std.proofs.Common.{◌≡◌, Err, sym, ap, ◌∙◌, subst, rules}
 use Rattle.cable_rules.specs.Group.{as_given}
+use Rattle.sheet_rules.specs.Promises.{GivenAlone}
 use Rattle.sheet_rules.proofs.SheetChecks.{given_by_cable, refused_by_cable}
 use Rattle.sheet.proofs.given_alone.Goals as goal
 
-pub returns-in-Accepted : goal.returns-in-Accepted
-returns-in-Accepted c =
-    given_by_cable _ (sym c.given-checked.ensures.answer ∙ ap as_given c.in-Accepted.is)
+pub returns-in_err-used : goal.returns-in_err-used
+returns-in_err-used c =
+    let r : Err c.in_err-used.field-0.0 ≡ c.from_residual.result = search rules in
+    subst (GivenAlone c.args.cable) r (refused_by_cable _ (sym c.given.ensures.answer ∙ ap as_given c.in_err-used.was))
 
-pub returns-in-Refused : goal.returns-in-Refused
-returns-in-Refused c =
-    refused_by_cable _ (sym c.given-checked.ensures.answer ∙ ap as_given c.in-Refused.is)
+pub returns : goal.returns
+returns c = given_by_cable _ (sym c.given.ensures.answer ∙ ap as_given c.in_ok-used.was)

@@ -1,9 +1,9 @@
 -- The share of a checked record is not refused, and the sum leaves room for its part. Assumes nothing.
+use Rattle.std.proofs.Common.{Ok}
 use mathlib.Core.Path.{◌≡◌, sym, ap, ◌∙◌}
 use Rattle.share_rules.specs.Answer.{share_from}
 use Rattle.share_rules.specs.declared.ShareAnswer.TheVariants as S
 use Rattle.sheet_rules.specs.Sheet.{group_in}
-use Rattle.history_rules.specs.declared.Turn.TheVariants.{Next}
 use Rattle.history_rules.proofs.AtRecord.{share_not_refused, mul_room, add_room, next_is}
 use Rattle.walk.proofs.step_to.Goals as goal
 
@@ -30,4 +30,4 @@ add-requires c =
 pub returns : goal.returns
 returns c =
     let paired : share_from (group_in c.args.sheet.now c.args.trench) c.args.next.minutes ≡ S.Pair c.in-Pair.pair = sym c.share_of-answer.ensures ∙ c.in-Pair.is in
-    ap Next (next_is c.requires.0 c.requires.1 paired c.change.ensures c.mul.ensures.is c.add.ensures.is)
+    ap Ok (next_is c.requires.0 c.requires.1 paired c.change.ensures c.mul.ensures.is c.add.ensures.is)
