@@ -10,7 +10,9 @@ fn main(rt: HostRuntime) {
             .write_all(b"usage: no words wanted: rise_by_reader < SHEET\n");
         return;
     }
-    match report::rise_from(&mut rt.stdin(), history::rise_by_reader) {
+    match report::rise_from(&mut rt.stdin(), |sheet: &[u8]| {
+        history::rise_by_reader(sheet)
+    }) {
         Ok(answer) => report::print_rise(
             &rt,
             answer,
