@@ -2,7 +2,6 @@
 #![tactic(auto)]
 
 ghost use Rattle.std.specs.Prelude.{◌≤◌};
-ghost use Rattle.text.specs.Writing.{line_room};
 ghost use Rattle.lines.specs.Lines.{Says};
 ghost use Rattle.history_rules.specs.Answer.{history_of, RiseSaid};
 ghost use Rattle.report.specs.Reading.{Within, FromBytes};
@@ -62,12 +61,8 @@ pub fn print_rise(rt: &HostRuntime, answer: RiseAnswer, lost: &[u8]) {
 }
 
 // Writes the line as it is, with no line end of its own.
-pub fn print(rt: &HostRuntime, line: Line, lost: &[u8])
-    requires { line.length ≤ line_room }
-{
-    let length = line.length;
-    let bytes = line.bytes;
-    put(rt, &bytes[..length], lost);
+pub fn print(rt: &HostRuntime, line: Line, lost: &[u8]) {
+    put(rt, line.as_slice(), lost);
 }
 
 // Writes to standard output. Where that fails, standard error is told what was lost, and the reason that the system gives.

@@ -71,7 +71,7 @@ as_integer minus None = None
 
 -- ---- two texts
 
--- The same bytes, and as many of them.
+-- The same bytes, and as many of them: what `==` says of two slices (`same_test` in proofs/Equality.antt).
 unfoldable pub same_bytes : List ℕ → List ℕ → Bool
 same_bytes [] [] = true
 same_bytes [] (b ∷ t) = false

@@ -3,15 +3,16 @@
 
 ghost use Rattle.std.specs.Prelude.{◌≡◌, [], ◌+◌, ◌<◌, ◌≤◌, length};
 ghost use Rattle.text.specs.Reading.{number_of, beyond_signed, with_sign, as_integer, signed_of};
-ghost use Rattle.text.specs.Writing.{decimal_text, signed_text, line_room, number_room, written, Appended, AppendedNumber};
+ghost use Rattle.text.specs.Writing.{decimal_text, signed_text, line_room, number_room, written, line_length, Appended, AppendedNumber};
+
+use arrayvec::ArrayVec;
+use itoa::Buffer;
 
 // Above every number of 18 digits.
 const BEYOND_SIGNED: u64 = 1000000000000000000;
 
-// In bytes: the longest decimal of 64 bits.
-const NUMBER_ROOM: usize = 20;
-
 // The number that the digits spell, and the most where they spell more; none of a text that is no whole number.
+#[tactic(auto, using(crate::proofs::Digits::at_most))]
 pub fn number_of(text: &[u8], most: u32) -> Option<u32>
     ensures { result ≡ number_of text.now most }
 {
@@ -20,6 +21,7 @@ pub fn number_of(text: &[u8], most: u32) -> Option<u32>
 }
 
 // Of digits only. Ten times the most and a digit fit, so that the number can be held at the most after each digit.
+#[tactic(auto, using(crate::proofs::Digits::passes, crate::proofs::Digits::stops, crate::proofs::Digits::ends, crate::proofs::Digits::none_spelled))]
 fn spelled_by(text: &[u8], most: u64) -> Option<u64>
     requires { most ≤ beyond_signed }
     ensures { result ≡ number_of text.now most }
@@ -38,6 +40,7 @@ fn spelled_by(text: &[u8], most: u64) -> Option<u64>
 }
 
 // The number of the digits, below 0 after a minus sign; none of a text that is no number of 18 digits at most.
+#[tactic(auto, using(crate::proofs::Signs::after_minus, crate::proofs::Signs::without_minus))]
 pub fn signed_of(text: &[u8]) -> Option<i64>
     ensures { result ≡ signed_of text.now }
 {
@@ -68,67 +71,54 @@ fn with_sign(size: u64, minus: bool) -> i64
 // The bytes of the longest line.
 const LINE_ROOM: usize = 80;
 
-// A line of output in the making: its first `length` bytes are written.
-#[derive(Clone, Copy)]
+// A line of output in the making.
+#[derive(Drop)]
 pub struct Line {
-    pub bytes: [u8; LINE_ROOM],
-    pub length: usize,
+    text: ArrayVec<u8, LINE_ROOM>,
 }
 
 impl Line {
     pub fn empty() -> Line
-        ensures { (written result ≡ []) × (result.length ≡ 0) }
+        ensures { (written result ≡ []) × (line_length result ≡ 0) }
     {
         Line {
-            bytes: [0u8; LINE_ROOM],
-            length: 0,
+            text: ArrayVec::new(),
         }
+    }
+
+    pub fn as_slice(&self) -> &[u8]
+        ensures { result.now ≡ written self.now }
+    {
+        self.text.as_slice()
     }
 
     // The text after what is written.
     pub fn with(self, more: &[u8]) -> Line
-        requires { self.length + length more.now ≤ line_room }
+        requires { line_length self + length more.now ≤ line_room }
         ensures { Appended self more.now result }
     {
-        let start = self.length;
-        let mut bytes = self.bytes;
-        let mut i = 0;
-        while i < more.len() {
-            bytes[start + i] = more[i];
-            i += 1;
-        }
-        Line {
-            bytes,
-            length: start + more.len(),
-        }
+        let Line { mut text } = self;
+        text.try_extend_from_slice(more).unwrap();
+        Line { text }
     }
 
     // In decimal, of 20 digits at most.
+    #[tactic(auto, using(crate::proofs::Decimal::library_number))]
     pub fn with_number(self, n: u64) -> Line
-        requires { self.length + number_room ≤ line_room }
+        requires { line_length self + number_room ≤ line_room }
         ensures { AppendedNumber self (decimal_text n) result }
     {
-        self.with_digits(n)
+        let mut digits = Buffer::new();
+        self.with(digits.format(n).as_bytes())
     }
 
     // In decimal, with a leading minus sign below 0: 20 bytes at most.
+    #[tactic(auto, using(crate::proofs::Decimal::library_signed))]
     pub fn with_signed(self, n: i64) -> Line
-        requires { self.length + number_room ≤ line_room }
+        requires { line_length self + number_room ≤ line_room }
         ensures { AppendedNumber self (signed_text n) result }
     {
-        if n < 0 {
-            self.with(b"-").with_digits(n.unsigned_abs())
-        } else {
-            self.with_digits(n.unsigned_abs())
-        }
-    }
-
-    fn with_digits(self, n: u64) -> Line
-        requires { self.length + length (decimal_text n) ≤ line_room }
-        ensures { Appended self (decimal_text n) result }
-    {
-        let mut digits = [0u8; NUMBER_ROOM];
-        let count = io::decimal(n, &mut digits);
-        self.with(&digits[..count])
+        let mut signed = Buffer::new();
+        self.with(signed.format(n).as_bytes())
     }
 }
