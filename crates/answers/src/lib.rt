@@ -2,7 +2,7 @@
 #![tactic(auto)]
 
 ghost use Rattle.std.specs.Prelude.{◌≤◌};
-ghost use Rattle.text.specs.Writing.{line_room};
+ghost use Rattle.text.specs.Writing.{line_length, line_room};
 ghost use Rattle.lines.specs.Lines.{Says};
 ghost use Rattle.answers.specs.Lines.{share_line, factor_line, current_line, OfCable, InSheet};
 
@@ -15,7 +15,7 @@ use words::{CABLE_FIELDS, ROOM};
 
 // What is asked of a cable, from the numbers that were read: minutes, 24 hours, or the preload, limit and minutes stand behind its eight fields.
 pub fn of_cable(asked: Asked, values: [u32; ROOM]) -> Line
-    ensures { (OfCable asked values result) × (result.length ≤ line_room) }
+    ensures { (OfCable asked values result) × (line_length result ≤ line_room) }
 {
     let cable = cable::cable_from(&values);
     match asked {
@@ -32,7 +32,7 @@ pub fn of_cable(asked: Asked, values: [u32; ROOM]) -> Line
 
 // What is asked of a sheet, with the numbers that were read, which stand first.
 pub fn in_sheet(asked: Asked, sheet: &[u8], values: [u32; ROOM]) -> Line
-    ensures { (InSheet asked sheet.now values result) × (result.length ≤ line_room) }
+    ensures { (InSheet asked sheet.now values result) × (line_length result ≤ line_room) }
 {
     match asked {
         Asked::Share => share_line(share::share_in_sheet(sheet, values[0])),
