@@ -30,7 +30,8 @@ pub fn of_cable(asked: Asked, values: [u32; ROOM]) -> Line
     }
 }
 
-// What is asked of a sheet, with the numbers that were read, which stand first.
+// What is asked of a sheet, with the numbers that were read, which stand first. Each arm calls another function than `of_cable` and reads other places, so that a
+// trait for the two would state the six calls once more.
 pub fn in_sheet(asked: Asked, sheet: &[u8], values: [u32; ROOM]) -> Line
     ensures { (InSheet asked sheet.now values result) × (line_length result ≤ line_room) }
 {
@@ -43,8 +44,8 @@ pub fn in_sheet(asked: Asked, sheet: &[u8], values: [u32; ROOM]) -> Line
     }
 }
 
-// The three answers are of three types, each with the `parts` of its own crate, so that a trait for them would take more lines than the three calls.
-// `share LOW HIGH`, `factor M`, `current I`, or `refused NUMBER PLACE`, and the line's end.
+// `share LOW HIGH`, `factor M`, `current I`, or `refused NUMBER PLACE`, and the line's end. The three answers are of three types, each with the `parts` of its own
+// crate, so that a trait for them would take more lines than the three calls.
 fn share_line(answer: ShareAnswer) -> Line
     ensures { Says result (share_line answer) }
 {
