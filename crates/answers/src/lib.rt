@@ -2,7 +2,7 @@
 #![tactic(auto)]
 
 ghost use Rattle.std.specs.Prelude.{◌≤◌};
-ghost use Rattle.text.specs.Writing.{line_room};
+ghost use Rattle.text.specs.Writing.{line_length, line_room};
 ghost use Rattle.lines.specs.Lines.{Says};
 ghost use Rattle.answers.specs.Lines.{share_line, factor_line, current_line, OfCable, InSheet};
 
@@ -15,7 +15,7 @@ use words::{CABLE_FIELDS, ROOM};
 
 // What is asked of a cable, from the numbers that were read: minutes, 24 hours, or the preload, limit and minutes stand behind its eight fields.
 pub fn of_cable(asked: Asked, values: [u32; ROOM]) -> Line
-    ensures { (OfCable asked values result) × (result.length ≤ line_room) }
+    ensures { (OfCable asked values result) × (line_length result ≤ line_room) }
 {
     let cable = cable::cable_from(&values);
     match asked {
@@ -30,9 +30,10 @@ pub fn of_cable(asked: Asked, values: [u32; ROOM]) -> Line
     }
 }
 
-// What is asked of a sheet, with the numbers that were read, which stand first.
+// What is asked of a sheet, with the numbers that were read, which stand first. Each arm calls another function than `of_cable` and reads other places, so that a
+// trait for the two would state the six calls once more.
 pub fn in_sheet(asked: Asked, sheet: &[u8], values: [u32; ROOM]) -> Line
-    ensures { (InSheet asked sheet.now values result) × (result.length ≤ line_room) }
+    ensures { (InSheet asked sheet.now values result) × (line_length result ≤ line_room) }
 {
     match asked {
         Asked::Share => share_line(share::share_in_sheet(sheet, values[0])),
@@ -43,8 +44,8 @@ pub fn in_sheet(asked: Asked, sheet: &[u8], values: [u32; ROOM]) -> Line
     }
 }
 
-// The three answers are of three types, each with the `parts` of its own crate, so that a trait for them would take more lines than the three calls.
-// `share LOW HIGH`, `factor M`, `current I`, or `refused NUMBER PLACE`, and the line's end.
+// `share LOW HIGH`, `factor M`, `current I`, or `refused NUMBER PLACE`, and the line's end. The three answers are of three types, each with the `parts` of its own
+// crate, so that a trait for them would take more lines than the three calls.
 fn share_line(answer: ShareAnswer) -> Line
     ensures { Says result (share_line answer) }
 {

@@ -7,7 +7,7 @@ use std::io::{Error, ErrorKind};
 use std::rt::Env;
 use words::AFTER_COMMAND;
 
-// The numbers of the system's errors for a word that is not there, and for a name that is too long.
+// The numbers of the system's errors for a word that is not there, and for a name that is too long: what is printed is the system's text for them.
 const NOT_THERE: i32 = 22;
 
 const TOO_LONG: i32 = 36;
@@ -28,6 +28,7 @@ pub fn read_sheet(rt: &HostRuntime, buffer: &mut [u8]) -> std::io::Result<usize>
     read
 }
 
+// No `From`: both types are the library's.
 fn reason(error: FillError) -> Error {
     match error {
         FillError::NotPresent => Error::from_raw_os_error(NOT_THERE),

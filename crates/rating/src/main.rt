@@ -1,9 +1,6 @@
 // Every calculation from the shell: `rating COMMAND NUMBERS` or `rating COMMAND FILE NUMBERS` prints one line of answer.
 #![tactic(auto)]
 
-ghost use Rattle.std.specs.Prelude.{◌≤◌};
-ghost use Rattle.text.specs.Writing.{line_room};
-
 mod file;
 mod usage;
 
@@ -24,10 +21,19 @@ fn main(rt: HostRuntime) {
     }
     match command_given(&rt) {
         Some(Command::Calculate(asked)) => calculate(&rt, words, asked),
-        Some(Command::Rise) => rise_command(&rt, words),
-        Some(Command::Explain) => explain_command(&rt, words),
-        Some(Command::Help) => help_command(&rt, words),
-        Some(Command::Version) => version_command(&rt, words),
+        Some(Command::Rise) if words == AFTER_FILE => {
+            of_file(&rt, |sheet| report::rise_line(history::rise(sheet)))
+        }
+        Some(Command::Rise) => guide::complaint(&rt, b"usage: one file wanted: rating rise FILE\n"),
+        Some(Command::Explain) => explain(&rt, words),
+        Some(Command::Help) if words == AFTER_COMMAND => guide::help(&rt),
+        Some(Command::Help) => {
+            guide::complaint(&rt, b"usage: no more words wanted: rating help\n")
+        }
+        Some(Command::Version) if words == AFTER_COMMAND => guide::version(&rt),
+        Some(Command::Version) => {
+            guide::complaint(&rt, b"usage: no more words wanted: rating version\n")
+        }
         None => guide::complaint(
             &rt,
             b"usage: no such command; rating share, factor, current, rise, explain, help or version\n",
@@ -58,16 +64,13 @@ fn names_file(rt: &HostRuntime, words: usize) -> bool {
         return false;
     }
     let mut word = io::buffer();
-    match rt.arg(AFTER_COMMAND, &mut word) {
-        Ok(length) => text::number_of(&word[..length], MOST).is_none(),
-        Err(_) => text::number_of(&word, MOST).is_none(),
-    }
+    let length = rt.arg(AFTER_COMMAND, &mut word).unwrap_or(word.len());
+    text::number_of(&word[..length], MOST).is_none()
 }
 
 // The line of the sheet in the file that is named.
 fn of_file<F: Fn(&[u8]) -> Line>(rt: &HostRuntime, line_of: F)
-    requires callable { F.IsAlwaysCallable line_of }
-    requires fits { (sheet : _) (line : _) → F.post line_of sheet line → line.length ≤ line_room }
+    requires { F.IsAlwaysCallable line_of }
 {
     let mut buffer = [0u8; report::SHEET_ROOM];
     if let Ok(length) = file::read_sheet(rt, &mut buffer) {
@@ -75,22 +78,12 @@ fn of_file<F: Fn(&[u8]) -> Line>(rt: &HostRuntime, line_of: F)
     }
 }
 
-fn print_answer(rt: &HostRuntime, line: Line)
-    requires { line.length ≤ line_room }
-{
+fn print_answer(rt: &HostRuntime, line: Line) {
     report::print(rt, line, b"rating: the answer cannot be written");
 }
 
-fn rise_command(rt: &HostRuntime, words: usize) {
-    if words != AFTER_FILE {
-        guide::complaint(rt, b"usage: one file wanted: rating rise FILE\n");
-        return;
-    }
-    of_file(rt, |sheet| report::rise_line(history::rise(sheet)));
-}
-
 // A refusal's number and, where a second word follows, its place.
-fn explain_command(rt: &HostRuntime, words: usize) {
+fn explain(rt: &HostRuntime, words: usize) {
     let placed = words == AFTER_COMMAND + 2;
     let wanted = if placed { 2 } else { 1 };
     match words::read(rt, words, false, wanted) {
@@ -102,20 +95,4 @@ fn explain_command(rt: &HostRuntime, words: usize) {
             b"usage: one or two numbers wanted: rating explain NUMBER PLACE\n",
         ),
     }
-}
-
-fn help_command(rt: &HostRuntime, words: usize) {
-    if words != AFTER_COMMAND {
-        guide::complaint(rt, b"usage: no more words wanted: rating help\n");
-        return;
-    }
-    guide::help(rt);
-}
-
-fn version_command(rt: &HostRuntime, words: usize) {
-    if words != AFTER_COMMAND {
-        guide::complaint(rt, b"usage: no more words wanted: rating version\n");
-        return;
-    }
-    guide::version(rt);
 }
