@@ -107,9 +107,11 @@ pub fn joined(sums: Sums, near: u64, image: u64, diffusion: u64) -> Sums
 {
     let own = integral::logarithm(near, image);
     let heat = heat_of(2000 * near, 2000 * image, diffusion, own);
+    let heat_sum = sums.heat.add(heat);
+    let logarithm_sum = sums.logarithm.add(own);
     Sums {
-        heat: sums.heat.add(heat),
-        logarithm: sums.logarithm.add(own),
+        heat: heat_sum,
+        logarithm: logarithm_sum,
     }
 }
 

@@ -13,17 +13,17 @@ heat_of-heat-requires c =
     let own_is : c.logarithm-own.result ≡ as_bounds (source_logarithm source) = c.logarithm-own.ensures in
     rw own_is (source_heat_asked c.requires)
 
-pub add-requires : goal.add-requires
+pub add-heat_sum-requires : goal.add-heat_sum-requires
 unfolding source_logarithm source_integral
-add-requires c =
+add-heat_sum-requires c =
     let source : Source = record { near = c.args.near; image = c.args.image } in
     let own_is : c.logarithm-own.result ≡ as_bounds (source_logarithm source) = c.logarithm-own.ensures in
     let heat_is : c.heat_of-heat.result ≡ as_bounds (source_integral c.args.diffusion source) = rw (c.heat_of-heat.ensures, own_is) refl in
     rw heat_is (heat_room c.requires)
 
-pub add-requires-2 : goal.add-requires-2
+pub add-logarithm_sum-requires : goal.add-logarithm_sum-requires
 unfolding source_logarithm
-add-requires-2 c =
+add-logarithm_sum-requires c =
     let source : Source = record { near = c.args.near; image = c.args.image } in
     let own_is : c.logarithm-own.result ≡ as_bounds (source_logarithm source) = c.logarithm-own.ensures in
     rw own_is (logarithm_room c.requires)
@@ -34,4 +34,4 @@ returns c =
     let source : Source = record { near = c.args.near; image = c.args.image } in
     let own_is : c.logarithm-own.result ≡ as_bounds (source_logarithm source) = c.logarithm-own.ensures in
     let heat_is : c.heat_of-heat.result ≡ as_bounds (source_integral c.args.diffusion source) = rw (c.heat_of-heat.ensures, own_is) refl in
-    rw (c.add-2.ensures.is, c.add.ensures.is, heat_is, own_is) (joined_is c.requires)
+    rw (c.add-logarithm_sum.ensures.is, c.add-heat_sum.ensures.is, heat_is, own_is) (joined_is c.requires)
