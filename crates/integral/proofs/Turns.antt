@@ -171,12 +171,6 @@ module _ {near far diffusion top : ℕ} {first : Bounds} (a : Span near far diff
     pub divisor_small : 2 * divisor < 18446744073709551616
     divisor_small = numbers.small
 
-    pub start_small : 2 * start < 18446744073709551616
-    start_small = let s = a.stretch in omega (arith, s.diffusion_small)
-
-    pub end_small : 2 * end < 18446744073709551616
-    end_small = let s = a.stretch in let n = numbers.end_is in omega (arith, s.diffusion_small)
-
     half_turn_slice : Slice diffusion (2 * diffusion) (2 * divisor)
     half_turn_slice = rw numbers.divisor_is (half_scaled k a.stretch)
 

@@ -1,12 +1,8 @@
 -- Each branch is the model's. Assumes nothing.
 use mathlib.Core.Path.{◌∙◌}
 use native.Mathlib.Omega.{arith}
-use Rattle.integral.proofs.Slices.{cut_is_slice, cut_some, cut_none}
+use Rattle.integral.proofs.Slices.{cut_some, cut_none}
 use Rattle.integral.proofs.KnotSlice.cut.Goals as goal
-
-pub heat_slice-requires : goal.heat_slice-requires
-heat_slice-requires c =
-    cut_is_slice c.args.near c.args.far c.args.self.below.slice c.max-start.ensures c.min-end.ensures (omega arith) c.end_exp-decay.ensures
 
 pub returns-then-start-end : goal.returns-then-start-end
 returns-then-start-end c =

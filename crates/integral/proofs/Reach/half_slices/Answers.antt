@@ -3,17 +3,11 @@ use mathlib.Core.Path.{ap, ◌∙◌}
 use native.Mathlib.Omega.{arith}
 use Rattle.bounds.specs.Pair.{as_bounds}
 use Rattle.integral.proofs.Rows.{half_row}
-use Rattle.integral.proofs.Turns.{half_begin, divisor_small, start_small, end_small, half_below, half_all_most, half_sum_most, half_part_most, half_again, half_done}
+use Rattle.integral.proofs.Turns.{half_begin, divisor_small, half_below, half_all_most, half_sum_most, half_part_most, half_again, half_done}
 use Rattle.integral.proofs.Reach.half_slices.Goals as goal
 
 pub loop-k-init : goal.loop-k-init
 loop-k-init c = half_begin c.args.self.span c.requires c.min-end.ensures
-
-pub overflow_mul-start : goal.overflow_mul-start
-overflow_mul-start c = let h = start_small c.args.self.span c.requires (omega arith) c.loop-k.invariant in omega arith
-
-pub overflow_mul-end : goal.overflow_mul-end
-overflow_mul-end c = let h = end_small c.args.self.span c.requires (omega arith) c.loop-k.invariant in omega arith
 
 pub overflow_mul-divisor : goal.overflow_mul-divisor
 overflow_mul-divisor c = let h = divisor_small c.args.self.span c.requires (omega arith) c.loop-k.invariant in omega arith
