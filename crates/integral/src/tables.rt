@@ -56,7 +56,7 @@ pub static HALF: [(u32, u32); 32] = [
     (744261034, 744261259),
 ];
 
-// e^(-u) at each knot: its low end and its high end.
+// e^(-u) at each knot: its low end and its high end. Apart from the slices below the knots, since `exp_row` speaks of the knots of both by one number.
 pub static EXP: [(u32, u32); 47] = [
     (120, 122),
     (328, 329),

@@ -5,16 +5,16 @@ use Rattle.numbers.proofs.Machine.{result_seen}
 use Rattle.bounds.specs.Pair.{as_bounds}
 use Rattle.model.proofs.FarSlice.{far_pair_near}
 use Rattle.integral.proofs.Slices.{far_room, far_slice_is}
-use Rattle.integral.proofs.far_slice.Goals as goal
+use Rattle.integral.proofs.Reach.far_slice.Goals as goal
 
 pub scaled_mul-requires : goal.scaled_mul-requires
-scaled_mul-requires c = rw (c.from_naturals.ensures, c.far_exp.ensures) (far_room c.requires)
+scaled_mul-requires c = rw (c.from_naturals.ensures, c.far_exp.ensures) (far_room c.args.self.span)
 
-pub returns-then-diffusion-far : goal.returns-then-diffusion-far
-returns-then-diffusion-far c =
+pub returns-then-self : goal.returns-then-self
+returns-then-self c =
     let l = c.signed in
     rw (c.at_most.ensures.is, c.scaled_mul.ensures.is, c.far_exp.ensures, c.from_naturals.ensures)
-    (far_slice_is c.requires (result_seen l.result l.type_inv ∙ l.ensures) (omega arith))
+    (far_slice_is c.args.self.span (result_seen l.result l.type_inv ∙ l.ensures) (omega arith))
 
 pub returns : goal.returns
 returns c = c.whole.ensures.is ∙ ap as_bounds (sym (far_pair_near _ _ _ _ (omega arith)))
