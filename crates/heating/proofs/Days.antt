@@ -1,4 +1,5 @@
--- The highest load and the sum of the squared loads, taken hour by hour in the definitions, are the fold and the sum over the whole day.
+-- The highest load and the sum of the squared loads, taken hour by hour in the definitions, are the fold and the sum over the whole day. And the size of the
+-- divisor.
 use mathlib.Core.Path.{◌≡◌, refl, sym}
 use mathlib.Core.List.{List}
 use Prim.Native.Nat.{ℕ, zero, suc, ◌*◌, ◌≤◌, max}
@@ -9,6 +10,8 @@ use lib.Seq.{take-length}
 use Rattle.std.specs.List.{fold, sum_by}
 use Rattle.std.proofs.lemmas.List.Sums.{fold_more, sum_by_more}
 use Rattle.cycle_rules.specs.Day.{highest_of, squared_loads}
+use Rattle.cycle_rules.specs.Heating.{common_divisor}
+use Rattle.cycle_rules.specs.Asked.{DivisorOf, most_divisor}
 
 abbrev pub square : ℕ → ℕ
 square x = x * x
@@ -29,3 +32,6 @@ module _ (hours : List ℕ) {n : ℕ} (day : length hours ≡ n) where
 
   pub squares_summed : sum_by square hours ≡ squared_loads hours n
   squares_summed = sym (rw day at (rw (take-length hours) at (squares_taken hours (length hours) (omega arith))))
+
+pub divisor_small : {hours : List ℕ} {divisor : ℕ} → DivisorOf hours divisor → common_divisor hours ≤ most_divisor
+divisor_small d = rw (← d.is) d.to

@@ -46,8 +46,8 @@ impl Day {
         ensures { (result ≡ heating_bounds (pairs_of shares) self.now.hours hour) × (Sized most_sum result) }
     {
         let mut sum = Bounds::whole(self.mean * MILLION);
-        for i in 0..HEATING_HOURS {
-            sum = sum.add(self.gathered_load(hour, i).mul(shares[i]));
+        for (i, share) in shares.iter().enumerate() {
+            sum = sum.add(self.gathered_load(hour, i).mul(*share));
         }
         sum.divided(self.divisor)
     }
