@@ -16,6 +16,7 @@ pub struct Bounds {
     pub high: i64,
 }
 
+// Methods by value, the form that document 01, 'Language form for each place', names.
 impl Bounds {
     // The pair of one number.
     pub fn point(n: i64) -> Bounds
@@ -158,6 +159,7 @@ pub fn signed(m: u64) -> i64
     m as i64
 }
 
+// Not a `From`, which could not ask that both ends are below 2^63.
 pub fn from_naturals(low: u64, high: u64) -> Bounds
     requires { (low < 2 ^ 63) × (high < 2 ^ 63) }
     ensures { result ≡ as_bounds (record { low = low; high = high }) }

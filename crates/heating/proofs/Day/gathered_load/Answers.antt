@@ -10,12 +10,7 @@ use Rattle.bounds.proofs.Sizes.{sized_more, add_sized, neg_sized}
 use Rattle.cycle_rules.specs.Heating.{relative_load}
 use Rattle.cycle_rules.specs.Asked.{most_divisor}
 use Rattle.cycle_rules.proofs.Heating.{difference_point}
-use Rattle.heating.proofs.gathered_load.Goals as goal
-
-pub neg-requires : goal.neg-requires
-neg-requires c =
-    let before_sized : Sized most_divisor c.whole-before.result = rw c.whole-before.ensures.is (record { low = c.relative_load-2.ensures.1; high = c.relative_load-2.ensures.1 }) in
-    sized_more (omega arith) before_sized
+use Rattle.heating.proofs.Day.gathered_load.Goals as goal
 
 pub add-requires : goal.add-requires
 add-requires c =
@@ -29,4 +24,4 @@ returns c =
     c.add.ensures.is
     ∙ ap₂ add_b c.whole-here.ensures.is (c.neg.ensures.is ∙ ap neg_b c.whole-before.ensures.is)
     ∙ difference_point c.relative_load.result c.relative_load-2.result
-    ∙ ap₂ (λ (a b : ℕ). point_b (pos a -ℤ pos b)) c.relative_load.ensures.0 (c.relative_load-2.ensures.0 ∙ ap (relative_load s.hours s.hour) (add-one s.i))
+    ∙ ap₂ (λ (a b : ℕ). point_b (pos a -ℤ pos b)) c.relative_load.ensures.0 (c.relative_load-2.ensures.0 ∙ ap (relative_load s.self.now.hours s.hour) (add-one s.i))
