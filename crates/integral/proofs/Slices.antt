@@ -18,12 +18,12 @@ use Rattle.model.specs.Width.{Under}
 use Rattle.model.proofs.Exponential.{exp_at_most_one, exp_from_16_at_most_122}
 use Rattle.model.proofs.Series.{series_most, series_most_lem, theta_at_most_half}
 use Rattle.model.proofs.Slice.{height_most, theta_half, tau_one, slice_series_most, slice_height_most}
-use Rattle.model.proofs.Parts.{any_some, any_none, any_slice_lem}
+use Rattle.model.proofs.Parts.{any_some, any_none}
 use Rattle.model.proofs.FarSlice.{far_pair_far}
 use Rattle.series.specs.Asked.{SliceFractions, UpTo}
 use Rattle.series.proofs.Products.{scaled_room_under}
 use Rattle.series.proofs.UpTo.{up_to_is}
-use Rattle.integral.specs.Asked.{OneOctave, Span, SliceWithExp}
+use Rattle.integral.specs.Asked.{OneOctave, Span}
 use Rattle.integral.specs.Knots.{knot_exp}
 use Rattle.integral.proofs.Knots.{unit_knot}
 
@@ -98,9 +98,6 @@ far_at_knot {near} {diffusion} s h =
 
 -- ---- what lies between two ends of a slice
 module _ {x y diffusion start end : ℕ} (near far : ℕ) (s : Slice x y diffusion) (es : start ≡ max near x) (ee : end ≡ min far y) where
-  pub cut_is_slice : {decay : Bounds} → start < end → decay ≡ as_bounds (exp_pair (min far y) diffusion) → SliceWithExp start end diffusion decay
-  cut_is_slice h e = record { slice = rw (es, ee) (any_slice_lem near far s (rw (es, ee) at h)); decay_is = rw ee e }
-
   pub cut_some : start < end → as_bounds (slice_pair start end diffusion) ≡ as_bounds (any_slice (max near x) (min far y) diffusion)
   cut_some h = rw (es, ee) (ap as_bounds (any_some (max near x) (min far y) diffusion (rw (es, ee) at h)))
 
