@@ -17,6 +17,7 @@ use std::io::{Print, Read};
 use std::rt::Env;
 use text::Line;
 
+// A loop over `read`, since the library's `read_exact` fails where an input is shorter than the buffer, and `read_to_end` allocates.
 // Fills the buffer from its start: how many bytes were read before the input ended or the buffer was full, or why a read failed.
 pub fn read_input<R: Read>(reader: &mut R, buffer: &mut [u8]) -> io::Result<usize>
     ensures { Within result buffer.new }

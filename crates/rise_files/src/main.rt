@@ -88,6 +88,7 @@ fn plain_rise(rt: &HostRuntime, k: usize) -> std::io::Result<RiseAnswer> {
     report::rise_from(&mut sheet, history::rise)
 }
 
+// By a closure: a function of a private module gets no proof where it is handed on by name.
 fn rise_by_reader(rt: &HostRuntime, k: usize) -> std::io::Result<RiseAnswer> {
     let mut sheet = sheet_named(rt, k)?;
     report::rise_from(&mut sheet, |sheet: &[u8]| {

@@ -102,7 +102,7 @@ impl Line {
         Line { text }
     }
 
-    // In decimal, of 20 digits at most.
+    // In decimal, of 20 digits at most. No generic function with `with_signed`: each is one call, and promises a definition of its own.
     #[tactic(auto, using(crate::proofs::Decimal::library_number))]
     pub fn with_number(self, n: u64) -> Line
         requires { line_length self + number_room ≤ line_room }
