@@ -4,12 +4,12 @@
 ghost use Rattle.std.specs.Prelude.{◌≡◌, ◌<◌, IfSome};
 ghost use Rattle.refusals.specs.Apart.{parts_of};
 ghost use Rattle.cable_rules.specs.Group.{given_cable};
-ghost use Rattle.sheet_rules.specs.Sheet.{given_sheet, group_in, as_given_in, Laid, OnlyLaid};
-ghost use Rattle.cycle_rules.specs.Day.{day_hours};
+ghost use Rattle.sheet_rules.specs.Sheet.{given_sheet};
+ghost use Rattle.sheet_rules.specs.Ground.{group_at, as_given_in};
+ghost use Rattle.cycle_rules.specs.Day.{day_hours, highest_load};
 ghost use Rattle.cycle_rules.specs.Heating.{heating_sum, reference_hour};
 ghost use Rattle.cycle_rules.specs.Factor.{largest_factor};
 ghost use Rattle.cycle_rules.specs.Answer.{first_above, factor_from, factor_answer, hour_pair, stated_factor, FactorSaid};
-ghost use Rattle.cycle_rules.specs.Asked.{Ready};
 ghost use Rattle.cycle_rules.specs.declared.FactorAnswer.TheVariants.{Factor};
 
 use bounds::Bounds;
@@ -19,7 +19,7 @@ pub use cycle_rules::FactorAnswer;
 use heating::HEATING_HOURS;
 use refusals::{Parts, Place, Refusal};
 use share::ShareAnswer;
-use sheet::Trench;
+use sheet::Ground;
 
 // In A.
 const MOST_AMPERES: u16 = 4000;
@@ -33,35 +33,29 @@ const HOUR: u32 = 60;
 pub fn factor(cable: Cable, hours: [u16; DAY_HOURS]) -> FactorAnswer
     ensures { FactorSaid (given_cable cable) hours result }
 {
-    factor_given(b"", sheet::given_alone(cable), hours)
+    factor_given(sheet::given_alone(cable), hours)
 }
 
 // The factor of the cable of a sheet, with its neighbours. The sheet is only read.
 pub fn factor_in_sheet(sheet: &[u8], hours: [u16; DAY_HOURS]) -> FactorAnswer
     ensures { FactorSaid (given_sheet sheet.now) hours result }
 {
-    factor_given(sheet, sheet::given(sheet), hours)
+    factor_given(sheet::given(sheet), hours)
 }
 
 // The factor of what is given, or the refusal of what was handed in.
-fn factor_given(
-    sheet: &[u8],
-    given: Result<Trench, Refusal>,
-    hours: [u16; DAY_HOURS],
-) -> FactorAnswer
-    requires { OnlyLaid sheet.now given }
-    ensures { result ≡ factor_answer (as_given_in sheet.now given) hours }
+fn factor_given(given: Result<Ground, Refusal>, hours: [u16; DAY_HOURS]) -> FactorAnswer
+    ensures { result ≡ factor_answer (as_given_in given.entry) hours }
 {
     match given {
-        Ok(trench) => factor_of(sheet, trench, hours),
+        Ok(ground) => factor_of(ground, hours),
         Err(refusal) => FactorAnswer::Refused(refusal),
     }
 }
 
-// The factor of an accepted cable in use and its neighbours: refusal 10, refusal 11, or the factor. Without a sheet there are no bytes, and the link is 0.
-pub fn factor_of(sheet: &[u8], trench: Trench, hours: [u16; DAY_HOURS]) -> FactorAnswer
-    requires { Laid sheet.now trench }
-    ensures { result ≡ factor_from (hour_pair (group_in sheet.now trench)) hours }
+// The factor of an accepted cable in use and its neighbours: refusal 10, refusal 11, or the factor.
+pub fn factor_of(ground: Ground, hours: [u16; DAY_HOURS]) -> FactorAnswer
+    ensures { result ≡ factor_from (hour_pair (group_at ground.entry)) hours }
 {
     if let Some(hour) = first_above(hours) {
         return FactorAnswer::Refused(Refusal {
@@ -75,7 +69,7 @@ pub fn factor_of(sheet: &[u8], trench: Trench, hours: [u16; DAY_HOURS]) -> Facto
             place: Place::None,
         });
     }
-    factor_of_day(sheet, trench, hours)
+    factor_of_day(ground, hours)
 }
 
 // What an answer states. No From, which would have to stand beside the answer's type, in a crate that has definitions alone.
@@ -89,14 +83,14 @@ pub fn parts(answer: FactorAnswer) -> Parts
 }
 
 // The factor of a day. The six shares, at hours of 60 minutes, are worked out once for all 24 hours.
-fn factor_of_day(sheet: &[u8], trench: Trench, hours: [u16; DAY_HOURS]) -> FactorAnswer
-    requires { Ready sheet.now trench hours }
-    ensures { result ≡ Factor (largest_factor (heating_sum (hour_pair (group_in sheet.now trench)) hours (reference_hour (hour_pair (group_in sheet.now trench)) hours))) }
+fn factor_of_day(ground: Ground, hours: [u16; DAY_HOURS]) -> FactorAnswer
+    requires { 0 < highest_load hours }
+    ensures { result ≡ Factor (largest_factor (heating_sum (hour_pair (group_at ground.entry)) hours (reference_hour (hour_pair (group_at ground.entry)) hours))) }
 {
     let none = Bounds::whole(0);
     let mut shares = [none; HEATING_HOURS];
     for i in 0..HEATING_HOURS {
-        let answer = share::share_of(sheet, trench, HOUR * (i as u32 + 1));
+        let answer = share::share_of(ground, HOUR * (i as u32 + 1));
         let ShareAnswer::Pair(pair) = answer else {
             return FactorAnswer::Refused(Refusal::from(share::parts(answer)));
         };

@@ -3,15 +3,8 @@ use Rattle.std.specs.Prelude.{◌≡◌, List, ℕ, zero, suc, ◌*◌, ◌≤�
 use Rattle.bounds.specs.Operations.{point_b}
 use Rattle.bounds.specs.Promises.{Sized}
 use Rattle.bounds.specs.declared.Bounds.{Bounds}
-use Rattle.sheet_rules.specs.Sheet.{Laid}
-use Rattle.sheet_rules.specs.declared.Trench.{Trench}
 use Rattle.cycle_rules.specs.Day.{day_hours, highest_load}
 use Rattle.cycle_rules.specs.Heating.{common_divisor, million}
-
--- An accepted cable in use with its neighbours, and check 11 passed.
-pub record Ready (s : List ℕ) (t : Trench) (hours : List ℕ) : Type 0 where
-  pub laid : Laid s t
-  pub loaded : 0 < highest_load hours
 
 -- The pairs of six shares in a list, as G(1), G(2), ..
 abbrev pub pairs_of : List Bounds → ℕ → Bounds

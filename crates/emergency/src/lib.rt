@@ -5,39 +5,44 @@ ghost use Rattle.std.specs.Prelude.{◌≡◌};
 ghost use Rattle.refusals.specs.Apart.{parts_of};
 ghost use Rattle.cable_rules.specs.Group.{given_cable};
 ghost use Rattle.sheet_rules.specs.Sheet.{given_sheet};
+ghost use Rattle.sheet_rules.specs.Ground.{as_given_in};
 ghost use Rattle.emergency_rules.specs.Asked.{rated_of};
-ghost use Rattle.emergency_rules.specs.Answer.{stated_current, CurrentSaid};
+ghost use Rattle.emergency_rules.specs.Answer.{current_answer, stated_current, CurrentSaid};
 
 use cable::Cable;
 pub use emergency_rules::CurrentAnswer;
 use refusals::{Parts, Refusal};
-use sheet::Trench;
+use sheet::Ground;
 
 // The current that a cable may carry for `minutes` after a preload of h percent of its rated current, its rise staying within r percent of the
 // rated one: the largest whole number of amperes up to 10,000 that the high share certifies.
 pub fn current(cable: Cable, h: u32, r: u32, minutes: u32) -> CurrentAnswer
     ensures { CurrentSaid (given_cable cable) h r minutes result }
 {
-    let given = sheet::given_alone(cable);
-    let answer = share::share_given(b"", given, minutes);
-    granting::after_share(answer, rated_of(given), h, r)
+    current_given(sheet::given_alone(cable), h, r, minutes)
 }
 
 // The current that the cable of a sheet may carry, with its neighbours. The sheet is only read.
 pub fn current_in_sheet(sheet: &[u8], h: u32, r: u32, minutes: u32) -> CurrentAnswer
     ensures { CurrentSaid (given_sheet sheet.now) h r minutes result }
 {
-    let given = sheet::given(sheet);
-    let answer = share::share_given(sheet, given, minutes);
+    current_given(sheet::given(sheet), h, r, minutes)
+}
+
+// The current of what is given, or the refusal of what was handed in.
+fn current_given(given: Result<Ground, Refusal>, h: u32, r: u32, minutes: u32) -> CurrentAnswer
+    ensures { result ≡ current_answer (as_given_in given.entry) h r minutes }
+{
+    let answer = share::share_given(given, minutes);
     granting::after_share(answer, rated_of(given), h, r)
 }
 
 // The rated current of what is given; where that is refused there is none.
-fn rated_of(given: Result<Trench, Refusal>) -> u32
-    ensures { result ≡ rated_of given }
+fn rated_of(given: Result<Ground, Refusal>) -> u32
+    ensures { result ≡ rated_of given.entry }
 {
     match given {
-        Ok(trench) => trench.cable.rated,
+        Ok(ground) => ground.trench.cable.rated,
         Err(_) => 0,
     }
 }

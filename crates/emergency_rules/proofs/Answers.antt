@@ -2,7 +2,6 @@
 use Rattle.std.proofs.Common.{Result, Ok, Err}
 use mathlib.Core.Path.{◌≡◌, refl, sym, ap, ◌∙◌}
 use mathlib.Core.Bool.{true, false}
-use mathlib.Core.List.{List}
 use Prim.Native.Nat.{ℕ, ◌*◌, ◌≤◌, ◌<◌}
 use native.Mathlib.Omega.{arith}
 use borrow.Author.Tests.{lt-ltb, le-ltb}
@@ -15,7 +14,7 @@ use Rattle.ranges.specs.Ranges.{outside, ◌to◌}
 use Rattle.refusals.specs.declared.Refusal.{Refusal}
 use Rattle.ranges.proofs.Ranges.{passed_within}
 use Rattle.cable_rules.specs.Group.{Given}
-use Rattle.sheet_rules.specs.Sheet.{group_in, as_given_in, OnlyLaid}
+use Rattle.sheet_rules.specs.Ground.{group_at, as_given_in}
 use Rattle.distance.specs.Promised.{Millionths}
 use Rattle.share_rules.specs.Answer.{share_answer}
 use Rattle.share_rules.specs.declared.ShareAnswer.{ShareAnswer}
@@ -26,7 +25,7 @@ use Rattle.emergency_rules.specs.Certifying.{largest_certified}
 use Rattle.emergency_rules.specs.Answer.{most_percent, refused12, refused13, current_from, after_share, current_of, current_answer}
 use Rattle.emergency_rules.specs.declared.CurrentAnswer.{CurrentAnswer}
 use Rattle.emergency_rules.specs.declared.CurrentAnswer.TheVariants.{Current, Refused}
-use Rattle.sheet_rules.specs.declared.Trench.{Trench}
+use Rattle.sheet_rules.specs.declared.Ground.{Ground}
 
 -- ---- a share that is given
 
@@ -78,16 +77,16 @@ module _ (rated h r : ℕ) {answer : ShareAnswer} where
 
 -- ---- what is given decides
 
-module _ (s : List ℕ) (minutes : ℕ) {answer : ShareAnswer} {rated : ℕ} where
+module _ (minutes : ℕ) {answer : ShareAnswer} {rated : ℕ} where
   -- its share and its rated current are in their ranges
-  pub rated_share : (given : Result Trench Refusal) → OnlyLaid s given → rated ≡ rated_of given → answer ≡ share_answer (as_given_in s given) minutes → Rated rated answer
-  rated_share (Ok t) laid q e pair is = (rw q (laid t refl).acceptable.rated_to, rw (answered_pair (group_in s t) minutes (sym e ∙ is)) (share_pair_range (group_in s t) minutes))
-  rated_share (Err f) laid q e pair is = let z : ◌≡◌ {A = ℕ} 0 1 = cc in absurd (omega arith)
+  pub rated_share : (given : Result Ground Refusal) → rated ≡ rated_of given → answer ≡ share_answer (as_given_in given) minutes → Rated rated answer
+  rated_share (Ok g) q e pair is = (rw q g.laid.acceptable.rated_to, rw (answered_pair (group_at g) minutes (sym e ∙ is)) (share_pair_range (group_at g) minutes))
+  rated_share (Err f) q e pair is = let z : ◌≡◌ {A = ℕ} 0 1 = cc in absurd (omega arith)
 
   -- and what follows from them is its current
-  pub answer_after : (given : Result Trench Refusal) (h r : ℕ) {a : CurrentAnswer} → rated ≡ rated_of given → answer ≡ share_answer (as_given_in s given) minutes → a ≡ after_share rated h r answer → a ≡ current_answer (as_given_in s given) h r minutes
+  pub answer_after : (given : Result Ground Refusal) (h r : ℕ) {a : CurrentAnswer} → rated ≡ rated_of given → answer ≡ share_answer (as_given_in given) minutes → a ≡ after_share rated h r answer → a ≡ current_answer (as_given_in given) h r minutes
   unfolding current_of
-  answer_after (Ok t) h r q e is = is ∙ ap (λ x. after_share x h r answer) q ∙ ap (λ x. after_share t.cable.rated h r x) e
+  answer_after (Ok g) h r q e is = is ∙ ap (λ x. after_share x h r answer) q ∙ ap (λ x. after_share g.trench.cable.rated h r x) e
   answer_after (Err f) h r q e is = is ∙ ap (λ x. after_share rated h r x) e
 
 pub answer_given : {given is : Given} (h r minutes : ℕ) {a : CurrentAnswer} → given ≡ is → a ≡ current_answer is h r minutes → a ≡ current_answer given h r minutes

@@ -7,7 +7,7 @@ use Rattle.share_rules.specs.declared.ShareAnswer.TheVariants.{Pair}
 use Rattle.emergency_rules.specs.Certifying.{million}
 use Rattle.emergency_rules.specs.Answer.{most_percent}
 use Rattle.refusals.specs.declared.Refusal.{Refusal}
-use Rattle.sheet_rules.specs.declared.Trench.{Trench}
+use Rattle.sheet_rules.specs.declared.Ground.{Ground}
 
 -- A rated current, a preload, a limit and a high share in their ranges.
 pub record InRange (rated h r g : ℕ) : Type 0 where
@@ -17,8 +17,8 @@ pub record InRange (rated h r g : ℕ) : Type 0 where
   pub share_to : g ≤ million
 
 -- The rated current of what is given, 0 where it is refused.
-abbrev pub rated_of : Result Trench Refusal → ℕ
-rated_of (Ok t) = t.cable.rated
+abbrev pub rated_of : Result Ground Refusal → ℕ
+rated_of (Ok g) = g.trench.cable.rated
 rated_of (Err f) = 0
 
 -- Where the share is a pair, that and the rated current of its cable are in their ranges.

@@ -13,7 +13,7 @@ pub fn rise_by_reader(sheet: &[u8]) -> RiseAnswer
     match checked {
         Err(refusal) => RiseAnswer::Refused(refusal),
         Ok(header) => {
-            let trench = sheet::trench_of(header);
+            let ground = sheet::ground_of(sheet, header);
             let read = reader::record_read(sheet, 0);
             // Never taken: record 0 of an accepted sheet is the one made of its header.
             let Some(first) = read else {
@@ -23,10 +23,9 @@ pub fn rise_by_reader(sheet: &[u8]) -> RiseAnswer
                 });
             };
             crate::walked(
-                sheet,
-                trench,
+                ground,
                 first,
-                |number| reader::record_read(sheet, number),
+                |number| reader::record_read(ground.sheet, number),
             )
         }
     }

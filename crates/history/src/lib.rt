@@ -13,7 +13,7 @@ mod by_reader;
 pub use by_reader::rise_by_reader;
 pub use history_rules::{Reached, RiseAnswer};
 use refusals::Parts;
-use sheet::{LoadRecord, Trench};
+use sheet::{Ground, LoadRecord};
 
 // The rise now, from the bytes of a sheet of any length. The sheet is only read.
 pub fn rise(sheet: &[u8]) -> RiseAnswer
@@ -23,13 +23,12 @@ pub fn rise(sheet: &[u8]) -> RiseAnswer
     match checked {
         Err(refusal) => RiseAnswer::Refused(refusal),
         Ok(header) => {
-            let trench = sheet::trench_of(header);
+            let ground = sheet::ground_of(sheet, header);
             let first = sheet::before_first(header.start, header.link);
             walked(
-                sheet,
-                trench,
+                ground,
                 first,
-                |number| sheet::record_at(sheet, number),
+                |number| sheet::record_at(ground.sheet, number),
             )
         }
     }
@@ -37,23 +36,22 @@ pub fn rise(sheet: &[u8]) -> RiseAnswer
 
 // The walk along the chain of records, from the header's own on, each read by its number. Minutes fall from record to record.
 fn walked<F: Fn(usize) -> Option<LoadRecord>>(
-    sheet: &[u8],
-    trench: Trench,
+    ground: Ground,
     first: LoadRecord,
     read: F,
 ) -> RiseAnswer
-    requires begins { Begins sheet.now trench first }
+    requires begins { Begins ground first }
     requires callable { F.IsAlwaysCallable read }
-    requires reads { (number : ℕ) (r : Option LoadRecord) → F.post read number r → RecordReadAs sheet.now number r }
-    ensures { RiseSaid (history_of sheet.now) result }
+    requires reads { (number : ℕ) (r : Option LoadRecord) → F.post read number r → RecordReadAs ground.sheet.now number r }
+    ensures { RiseSaid (history_of ground.entry.sheet.now) result }
 {
     let mut at = heat::begin(first);
     loop {
         let last = at.last;
         if last.next == 0 {
-            break RiseAnswer::Rise(heat::end(trench.cable, at));
+            break RiseAnswer::Rise(heat::end(ground.trench.cable, at));
         }
-        let turn = walk::step(sheet, trench, at, read(last.next));
+        let turn = walk::step(ground, at, read(last.next));
         match turn {
             Err(refusal) => break RiseAnswer::Refused(refusal),
             Ok(next) => at = next,

@@ -19,12 +19,12 @@ use Rattle.share_rules.specs.declared.ShareAnswer.TheVariants as S
 use Rattle.share_rules.proofs.Answers.{share_given}
 use Rattle.share_rules.proofs.Promises.{share_pair_range, answered_pair}
 use Rattle.sheet_rules.specs.Header.{most_amperes}
-use Rattle.sheet_rules.specs.Sheet.{group_in}
+use Rattle.sheet_rules.specs.Ground.{group_at}
 use Rattle.sheet_rules.specs.Records.{most_minutes, before_first, record_at, checked_record}
-use Rattle.sheet_rules.specs.declared.Trench.{Trench}
+use Rattle.sheet_rules.specs.declared.Ground.{Ground}
 use Rattle.sheet_rules.specs.declared.LoadRecord.{LoadRecord}
 use Rattle.sheet_rules.proofs.HeaderChecks.{accepted_header}
-use Rattle.sheet_rules.proofs.SheetChecks.{accepted_sheet, trench_group, trench_laid}
+use Rattle.sheet_rules.proofs.SheetChecks.{accepted_sheet, trench_group}
 use Rattle.sheet_rules.proofs.RecordChecks.{accepted_record}
 use Rattle.history_rules.specs.Rise.{change_of, step_heat, start_heat}
 use Rattle.history_rules.specs.Answer.{history_of, rise_answer}
@@ -36,26 +36,26 @@ use Rattle.history_rules.proofs.Sizes.{start_sized, step_sized}
 
 -- ---- what a turn asks
 
-module _ {s : List ℕ} {u : Trench} {at : Reached} (t : Turning s u at) where
+module _ (g : Ground) {at : Reached} (t : Turning at) where
   sum_most : Sized 100000000000000000 at.sum
   sum_most = sized_more (omega arith) t.sized
 
-  pub ending : Ending u.cable at
-  ending = record { rated_from = t.laid.acceptable.rated_from; sized = t.sized }
+  pub ending : Ending g.trench.cable at
+  ending = record { rated_from = g.laid.acceptable.rated_from; sized = t.sized }
 
   module _ {next : LoadRecord} (n : StepTo next) where
     -- the share of an accepted cable at a checked record is not refused
-    pub share_not_refused : {f : Refusal} → share_from (group_in s u) next.minutes ≡ S.Refused f → ⊥
+    pub share_not_refused : {f : Refusal} → share_from (group_at g) next.minutes ≡ S.Refused f → ⊥
     share_not_refused o =
-        let p = share_given (group_in s u) next.minutes n.minutes_within in
+        let p = share_given (group_at g) next.minutes n.minutes_within in
         let z : ◌≡◌ {A = ℕ} 0 1 = cc in omega arith
 
-    step_most_lem : Sized step_most (step_heat (share_pair (group_in s u) next.minutes) at.last.amperes next.amperes)
-    step_most_lem = step_sized (share_pair_range (group_in s u) next.minutes) t.amperes_most n.amperes_most
+    step_most_lem : Sized step_most (step_heat (share_pair (group_at g) next.minutes) at.last.amperes next.amperes)
+    step_most_lem = step_sized (share_pair_range (group_at g) next.minutes) t.amperes_most n.amperes_most
 
-    module _ {pair change : Bounds} (ep : share_from (group_in s u) next.minutes ≡ S.Pair pair) (ec : change ≡ point_b (change_of at.last.amperes next.amperes)) where
-      step_is : mul_b change pair ≡ step_heat (share_pair (group_in s u) next.minutes) at.last.amperes next.amperes
-      step_is = rw (ec, answered_pair (group_in s u) next.minutes ep)
+    module _ {pair change : Bounds} (ep : share_from (group_at g) next.minutes ≡ S.Pair pair) (ec : change ≡ point_b (change_of at.last.amperes next.amperes)) where
+      step_is : mul_b change pair ≡ step_heat (share_pair (group_at g) next.minutes) at.last.amperes next.amperes
+      step_is = rw (ec, answered_pair (group_at g) next.minutes ep)
 
       pub mul_room : Sized largest (mul_b change pair)
       mul_room = rw step_is (sized_more (omega arith) step_most_lem)
@@ -64,7 +64,7 @@ module _ {s : List ℕ} {u : Trench} {at : Reached} (t : Turning s u at) where
         pub add_room : Sized largest (add_b at.sum product)
         add_room = rw (em, step_is) (sized_more (omega arith) (add_sized sum_most step_most_lem))
 
-        pub next_is : {sum : Bounds} → sum ≡ add_b at.sum product → record { last = next; sum = sum } ≡ next_at (share_pair (group_in s u)) at next
+        pub next_is : {sum : Bounds} → sum ≡ add_b at.sum product → record { last = next; sum = sum } ≡ next_at (share_pair (group_at g)) at next
         next_is es = rw (es, em, step_is)
 
 -- ---- what the end asks
@@ -89,12 +89,15 @@ step_to before read e = let a = accepted_record before read e in record { minute
 
 -- ---- along the chain
 
-pub record AtRecord (s : List ℕ) (t : Trench) (at : Reached) : Type 0 where
-  pub turning : Turning s t at
-  pub answer : rest (share_pair (group_in s t)) t.cable.rated s at.last at.sum ≡ rise_answer (history_of s)
+pub record AtRecord (g : Ground) (at : Reached) : Type 0 where
+  pub turning : Turning at
+  pub answer : rest (share_pair (group_at g)) g.trench.cable.rated g.sheet.now at.last at.sum ≡ rise_answer (history_of g.sheet.now)
 
 -- a walk begins with the header's own record and its current's part
-module _ {s : List ℕ} {t : Trench} {first : LoadRecord} (b : Begins s t first) where
+module _ {g : Ground} {first : LoadRecord} (b : Begins g first) where
+  abbrev s : List ℕ
+  s = g.sheet.now
+
   pub first_amperes : first.amperes ≤ most_amperes
   first_amperes =
       let a = accepted_sheet s b.sheet in
@@ -104,41 +107,43 @@ module _ {s : List ℕ} {t : Trench} {first : LoadRecord} (b : Begins s t first)
   first_minutes : first.minutes ≡ most_minutes + 1
   first_minutes = ap (λ r. r.minutes) b.record_0
 
-  pub at_start : {at : Reached} → at ≡ begin_at first → AtRecord s t at
+  pub at_start : {at : Reached} → at ≡ begin_at first → AtRecord g at
   at_start e =
       rw e
       (record {
         turning =
             record {
-              laid = trench_laid s (accepted_sheet s b.sheet) b.trench;
               minutes_most = omega (arith, first_minutes);
               amperes_most = first_amperes;
               sized = sized_more (omega (arith, first_minutes)) (start_sized first_amperes);
             };
         answer =
             rw b.record_0
-            (subst (λ (g : Group). rest (share_pair g) g.cable.rated s (before_first b.header.start b.header.link) (start_heat b.header.start) ≡ rise_answer (history_of s)) (sym (trench_group s (accepted_sheet s b.sheet) b.trench)) (rest_of_all s b.sheet));
+            (subst (λ (h : Group). rest (share_pair h) h.cable.rated s (before_first b.header.start b.header.link) (start_heat b.header.start) ≡ rise_answer (history_of s)) (sym (trench_group s (accepted_sheet s b.sheet) b.trench)) (rest_of_all s b.sheet));
       })
 
-module _ {s : List ℕ} {t : Trench} {at : Reached} (a : AtRecord s t at) where
-  pub chain_ended : at.last.next ≡ 0 → {b : Bounds} → b ≡ end_of t.cable at → Rise b ≡ rise_answer (history_of s)
-  chain_ended z e = ap Rise e ∙ rest_ends (share_pair (group_in s t)) t.cable.rated s at.last at.sum z ∙ a.answer
+module _ {g : Ground} {at : Reached} (a : AtRecord g at) where
+  abbrev here : List ℕ
+  here = g.sheet.now
+
+  pub chain_ended : at.last.next ≡ 0 → {b : Bounds} → b ≡ end_of g.trench.cable at → Rise b ≡ rise_answer (history_of here)
+  chain_ended z e = ap Rise e ∙ rest_ends (share_pair (group_at g)) g.trench.cable.rated here at.last at.sum z ∙ a.answer
 
   module _ (z : at.last.next ≡ 0 → ⊥) where
     abbrev read_here : Option LoadRecord
-    read_here = record_at s at.last.next
+    read_here = record_at here at.last.next
 
     -- where the turn leads: on to a later record, or out with the sheet's refusal
-    refused_by : (c : Result LoadRecord Refusal) {f : Refusal} → checked_record at.last read_here ≡ c → after_read c (next_at (share_pair (group_in s t)) at) ≡ Err f → Refused f ≡ rise_answer (history_of s)
+    refused_by : (c : Result LoadRecord Refusal) {f : Refusal} → checked_record at.last read_here ≡ c → after_read c (next_at (share_pair (group_at g)) at) ≡ Err f → Refused f ≡ rise_answer (history_of here)
     refused_by (Ok n) e p = let o : ◌≡◌ {A = ℕ} 0 1 = cc in absurd (omega arith)
-    refused_by (Err f) e p = let same : Err f ≡ Err _ = p in ap Refused (cc) ∙ rest_refused (share_pair (group_in s t)) t.cable.rated s at.last at.sum z e ∙ a.answer
+    refused_by (Err f) e p = let same : Err f ≡ Err _ = p in ap Refused (cc) ∙ rest_refused (share_pair (group_at g)) g.trench.cable.rated here at.last at.sum z e ∙ a.answer
 
     -- what was read is what stands at the link
-    pub turn_refused : {read : Option LoadRecord} {turn : Result Reached Refusal} {f : Refusal} → read ≡ read_here → turn ≡ turn_of (share_pair (group_in s t)) at read → turn ≡ Err f → Refused f ≡ rise_answer (history_of s)
+    pub turn_refused : {read : Option LoadRecord} {turn : Result Reached Refusal} {f : Refusal} → read ≡ read_here → turn ≡ turn_of (share_pair (group_at g)) at read → turn ≡ Err f → Refused f ≡ rise_answer (history_of here)
     unfolding turn_of
-    turn_refused er et e = refused_by (checked_record at.last read_here) refl (sym (ap (turn_of (share_pair (group_in s t)) at) er) ∙ sym et ∙ e)
+    turn_refused er et e = refused_by (checked_record at.last read_here) refl (sym (ap (turn_of (share_pair (group_at g)) at) er) ∙ sym et ∙ e)
 
-    at_next : {n : LoadRecord} → checked_record at.last read_here ≡ Ok n → (n.minutes < at.last.minutes) × AtRecord s t (next_at (share_pair (group_in s t)) at n)
+    at_next : {n : LoadRecord} → checked_record at.last read_here ≡ Ok n → (n.minutes < at.last.minutes) × AtRecord g (next_at (share_pair (group_at g)) at n)
     at_next {n} e =
         let r = accepted_record at.last read_here e in
         let u = a.turning in (
@@ -146,19 +151,18 @@ module _ {s : List ℕ} {t : Trench} {at : Reached} (a : AtRecord s t at) where
           record {
             turning =
                 record {
-                  laid = u.laid;
                   minutes_most = omega (arith, r.minutes_fall, u.minutes_most);
                   amperes_most = r.amperes_most;
-                  sized = sized_more (omega (arith, r.minutes_fall, u.minutes_most)) (add_sized u.sized (step_most_lem u (step_to at.last read_here e)));
+                  sized = sized_more (omega (arith, r.minutes_fall, u.minutes_most)) (add_sized u.sized (step_most_lem g u (step_to at.last read_here e)));
                 };
-            answer = rest_goes_on (share_pair (group_in s t)) t.cable.rated s at.last at.sum z e ∙ a.answer;
+            answer = rest_goes_on (share_pair (group_at g)) g.trench.cable.rated here at.last at.sum z e ∙ a.answer;
           },
         )
 
-    next_by : (c : Result LoadRecord Refusal) {n : Reached} → checked_record at.last read_here ≡ c → after_read c (next_at (share_pair (group_in s t)) at) ≡ Ok n → (n.last.minutes < at.last.minutes) × AtRecord s t n
+    next_by : (c : Result LoadRecord Refusal) {n : Reached} → checked_record at.last read_here ≡ c → after_read c (next_at (share_pair (group_at g)) at) ≡ Ok n → (n.last.minutes < at.last.minutes) × AtRecord g n
     next_by (Err f) e p = let o : ◌≡◌ {A = ℕ} 0 1 = cc in absurd (omega arith)
-    next_by (Ok r) {n} e p = let same : next_at (share_pair (group_in s t)) at r ≡ n = cc in subst (λ (m : Reached). (m.last.minutes < at.last.minutes) × AtRecord s t m) same (at_next e)
+    next_by (Ok r) {n} e p = let same : next_at (share_pair (group_at g)) at r ≡ n = cc in subst (λ (m : Reached). (m.last.minutes < at.last.minutes) × AtRecord g m) same (at_next e)
 
-    pub turn_next : {read : Option LoadRecord} {turn : Result Reached Refusal} {n : Reached} → read ≡ read_here → turn ≡ turn_of (share_pair (group_in s t)) at read → turn ≡ Ok n → (n.last.minutes < at.last.minutes) × AtRecord s t n
+    pub turn_next : {read : Option LoadRecord} {turn : Result Reached Refusal} {n : Reached} → read ≡ read_here → turn ≡ turn_of (share_pair (group_at g)) at read → turn ≡ Ok n → (n.last.minutes < at.last.minutes) × AtRecord g n
     unfolding turn_of
-    turn_next er et e = next_by (checked_record at.last read_here) refl (sym (ap (turn_of (share_pair (group_in s t)) at) er) ∙ sym et ∙ e)
+    turn_next er et e = next_by (checked_record at.last read_here) refl (sym (ap (turn_of (share_pair (group_at g)) at) er) ∙ sym et ∙ e)

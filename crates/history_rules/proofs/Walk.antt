@@ -11,11 +11,11 @@ use Rattle.bounds.proofs.Enclosure.{same_ends}
 use Rattle.refusals.specs.declared.Refusal.{Refusal}
 use Rattle.share_rules.specs.Pair.{share_pair}
 use Rattle.sheet_rules.specs.Sheet.{checked_sheet, group_of, given_sheet}
-use Rattle.sheet_rules.specs.Promises.{TrenchSaid}
+use Rattle.sheet_rules.specs.Promises.{GroundSaid}
 use Rattle.sheet_rules.specs.Records.{before_first, record_at, checked_record}
 use Rattle.sheet_rules.specs.Chain.{Step, Chain, steps, refused, step_of, as_chain, load_walk}
 use Rattle.sheet_rules.specs.declared.Header.{Header}
-use Rattle.sheet_rules.specs.declared.Trench.{Trench}
+use Rattle.sheet_rules.specs.declared.Ground.{Ground}
 use Rattle.sheet_rules.specs.declared.LoadRecord.{LoadRecord}
 use Rattle.sheet_rules.proofs.HeaderChecks.{accepted_header}
 use Rattle.sheet_rules.proofs.SheetChecks.{accepted_sheet}
@@ -92,18 +92,19 @@ module _ (s : List ℕ) where
 
 -- ---- where a walk begins
 
-module _ (s : List ℕ) {h : Header} (e : checked_sheet s ≡ Ok h) {t : Trench} (d : TrenchSaid h t) where
-  pub begins_plain : {first : LoadRecord} → first ≡ before_first h.start h.link → Begins s t first
-  begins_plain f = record { header = h; sheet = e; trench = d; record_0 = f }
-
+module _ (s : List ℕ) {h : Header} (e : checked_sheet s ≡ Ok h) where
   -- the header is held as record 0
   header_read : record_at s 0 ≡ Some (before_first h.start h.link)
   header_read =
       let a = accepted_sheet s e in
       sym (header_held s 0 (accepted_header s a.header).length_right (omega arith) refl) ∙ ap (λ (k : Header). Some (before_first k.start k.link)) (sym a.is)
 
-  pub begins_read : {first : LoadRecord} → record_at s 0 ≡ Some first → Begins s t first
-  begins_read {first} r = let f : first ≡ before_first h.start h.link = cc header_read in begins_plain f
-
   pub header_not_missing : record_at s 0 ≡ None → ⊥
   header_not_missing r = let z : ◌≡◌ {A = ℕ} 0 1 = cc header_read in omega arith
+
+  module _ {g : Ground} (d : GroundSaid s h g) where
+    pub begins_plain : {first : LoadRecord} → first ≡ before_first h.start h.link → Begins g first
+    begins_plain f = record { header = h; sheet = ap checked_sheet d.sheet ∙ e; trench = d.trench; record_0 = f }
+
+    pub begins_read : {first : LoadRecord} → record_at s 0 ≡ Some first → Begins g first
+    begins_read {first} r = let f : first ≡ before_first h.start h.link = cc header_read in begins_plain f

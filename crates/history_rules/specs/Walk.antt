@@ -1,5 +1,5 @@
 -- The walk along the chain, turn by turn: what `rise` and `rise_by_reader` have in common.
-use Rattle.std.specs.Prelude.{◌≡◌, false, List, ℕ, ◌+◌, ◌*◌, ◌-◌, ◌≤◌, Option, Result, Ok, Err}
+use Rattle.std.specs.Prelude.{◌≡◌, false, ℕ, ◌+◌, ◌*◌, ◌-◌, ◌≤◌, Option, Result, Ok, Err}
 use Rattle.bounds.specs.Operations.{add_b, divided_b}
 use Rattle.bounds.specs.Promises.{Sized}
 use Rattle.bounds.specs.declared.Bounds.{Bounds}
@@ -8,10 +8,10 @@ use Rattle.cable_rules.specs.declared.Cable.{Cable}
 use Rattle.share_rules.specs.Answer as share
 use Rattle.sheet_rules.specs.Header.{most_amperes}
 use Rattle.sheet_rules.specs.Records.{most_minutes, before_first, checked_record}
-use Rattle.sheet_rules.specs.Sheet.{checked_sheet, Laid}
+use Rattle.sheet_rules.specs.Sheet.{checked_sheet}
 use Rattle.sheet_rules.specs.Promises.{TrenchSaid}
 use Rattle.sheet_rules.specs.declared.Header.{Header}
-use Rattle.sheet_rules.specs.declared.Trench.{Trench}
+use Rattle.sheet_rules.specs.declared.Ground.{Ground}
 use Rattle.sheet_rules.specs.declared.LoadRecord.{LoadRecord}
 use Rattle.history_rules.specs.Rise.{million, step_heat, start_heat}
 use Rattle.history_rules.specs.declared.Reached.{Reached}
@@ -47,9 +47,8 @@ step_most = 2 * (most_amperes * most_amperes) * million
 abbrev pub parts_to : ℕ → ℕ
 parts_to minutes = most_minutes + 2 - minutes
 
--- An accepted cable in use and its neighbours, a record in its ranges, and a sum that leaves room for the steps to come.
-pub record Turning (s : List ℕ) (t : Trench) (at : Reached) : Type 0 where
-  pub laid : Laid s t
+-- A record in its ranges, and a sum that leaves room for the steps to come.
+pub record Turning (at : Reached) : Type 0 where
   pub minutes_most : at.last.minutes ≤ most_minutes + 1
   pub amperes_most : at.last.amperes ≤ most_amperes
   pub sized : Sized (step_most * parts_to at.last.minutes) at.sum
@@ -65,8 +64,8 @@ pub record StepTo (next : LoadRecord) : Type 0 where
   pub amperes_most : next.amperes ≤ most_amperes
 
 -- Where a walk begins: what an accepted sheet gives, and the header's own record.
-pub record Begins (s : List ℕ) (t : Trench) (first : LoadRecord) : Type 0 where
+pub record Begins (g : Ground) (first : LoadRecord) : Type 0 where
   pub header : Header
-  pub sheet : checked_sheet s ≡ Ok header
-  pub trench : TrenchSaid header t
+  pub sheet : checked_sheet g.sheet.now ≡ Ok header
+  pub trench : TrenchSaid header g.trench
   pub record_0 : first ≡ before_first header.start header.link

@@ -23,6 +23,7 @@ use Rattle.sheet_rules.specs.Neighbours.{neighbour_of, most_depth, checked_neigh
 use Rattle.sheet_rules.specs.Sheet.{group_in, walk_in}
 use Rattle.sheet_rules.specs.declared.LoadRecord.{LoadRecord}
 use Rattle.sheet_rules.specs.declared.Trench.{Trench}
+use Rattle.sheet_rules.specs.declared.Ground.{Ground}
 use Rattle.sheet_rules.proofs.Turns.{GoesOn, walk_ends, goes_on}
 use Rattle.sheet_rules.proofs.NeighbourChecks.{accepted_neighbour, accepted_inside, links_rise, few_neighbours}
 use Rattle.share_rules.specs.Pair.{seconds_of}
@@ -57,11 +58,17 @@ pub record AtNeighbour (s : List ℕ) (g : Group) (seconds diffusion : ℕ) (sum
 in_ranges_lem : (c : CableNumbers) (m : ℕ) → Accepted c m → Ranges c.d c.l c.s c.k c.w (seconds_of m)
 in_ranges_lem c m a = omega (arith, a)
 
-module _ {s : List ℕ} {t : Trench} {seconds : ℕ} (summed : Summed s t seconds) where
+module _ {on : Ground} {seconds : ℕ} (summed : Summed on seconds) where
+  abbrev s : List ℕ
+  s = on.sheet.now
+
+  abbrev t : Trench
+  t = on.trench
+
   abbrev c : CableNumbers
   c = numbers_in (group_in s t)
 
-  timed : Timed s t summed.minutes
+  timed : Timed on summed.minutes
   timed = summed.timed
 
   in_range : Ranges c.d c.l c.s c.k c.w seconds
@@ -82,7 +89,7 @@ module _ {s : List ℕ} {t : Trench} {seconds : ℕ} (summed : Summed s t second
       record {
         ranges = timed.accepted.cable;
         rest = records_in (walk_in s t);
-        walk = timed.laid.records;
+        walk = on.laid.records;
         heat = cable_integral c.d c.l c.s (seconds);
         logarithm = cable_logarithm c.d c.l;
         is = e ∙ cable_sums_are c.d c.l c.s (seconds);

@@ -4,13 +4,14 @@
 ghost use Rattle.std.specs.Prelude.{◌≡◌};
 ghost use Rattle.refusals.specs.Apart.{parts_of};
 ghost use Rattle.cable_rules.specs.Group.{given_cable};
-ghost use Rattle.sheet_rules.specs.Sheet.{given_sheet, group_in, as_given_in, Laid, OnlyLaid};
+ghost use Rattle.sheet_rules.specs.Sheet.{given_sheet};
+ghost use Rattle.sheet_rules.specs.Ground.{group_at, as_given_in};
 ghost use Rattle.share_rules.specs.Answer.{share_from, share_answer, stated_share, ShareSaid};
 
 use cable::Cable;
 use refusals::{Parts, Place, Refusal};
 pub use share_rules::ShareAnswer;
-use sheet::Trench;
+use sheet::Ground;
 
 // Two days.
 const MOST_MINUTES: u32 = 2880;
@@ -19,31 +20,29 @@ const MOST_MINUTES: u32 = 2880;
 pub fn share(cable: Cable, minutes: u32) -> ShareAnswer
     ensures { ShareSaid (given_cable cable) minutes result }
 {
-    share_given(b"", sheet::given_alone(cable), minutes)
+    share_given(sheet::given_alone(cable), minutes)
 }
 
 // The share after `minutes` of the cable of a sheet, with its neighbours. The sheet is only read.
 pub fn share_in_sheet(sheet: &[u8], minutes: u32) -> ShareAnswer
     ensures { ShareSaid (given_sheet sheet.now) minutes result }
 {
-    share_given(sheet, sheet::given(sheet), minutes)
+    share_given(sheet::given(sheet), minutes)
 }
 
 // The share of what is given, or the refusal of what was handed in.
-pub fn share_given(sheet: &[u8], given: Result<Trench, Refusal>, minutes: u32) -> ShareAnswer
-    requires { OnlyLaid sheet.now given }
-    ensures { result ≡ share_answer (as_given_in sheet.now given) minutes }
+pub fn share_given(given: Result<Ground, Refusal>, minutes: u32) -> ShareAnswer
+    ensures { result ≡ share_answer (as_given_in given.entry) minutes }
 {
     match given {
-        Ok(trench) => share_of(sheet, trench, minutes),
+        Ok(ground) => share_of(ground, minutes),
         Err(refusal) => ShareAnswer::Refused(refusal),
     }
 }
 
-// The share of an accepted cable in use and its neighbours: refusal 9, or the pair. Without a sheet there are no bytes, and the link is 0.
-pub fn share_of(sheet: &[u8], trench: Trench, minutes: u32) -> ShareAnswer
-    requires { Laid sheet.now trench }
-    ensures { result ≡ share_from (group_in sheet.now trench) minutes }
+// The share of an accepted cable in use and its neighbours: refusal 9, or the pair.
+pub fn share_of(ground: Ground, minutes: u32) -> ShareAnswer
+    ensures { result ≡ share_from (group_at ground.entry) minutes }
 {
     if ranges::outside(minutes, 1, MOST_MINUTES) {
         return ShareAnswer::Refused(Refusal {
@@ -51,7 +50,7 @@ pub fn share_of(sheet: &[u8], trench: Trench, minutes: u32) -> ShareAnswer
             place: Place::None,
         });
     }
-    ShareAnswer::Pair(pair::pair_of(sheet, trench, minutes))
+    ShareAnswer::Pair(pair::pair_of(ground, minutes))
 }
 
 // What an answer states. No From, which would have to stand beside the answer's type, in a crate that has definitions alone.

@@ -18,10 +18,11 @@ use Rattle.sheet_rules.specs.Walk.{Walk, reached, refused, walk_from, records_in
 use Rattle.sheet_rules.specs.Chain.{load_walk}
 use Rattle.sheet_rules.specs.Neighbours.{beside_first, neighbour_walk, neighbours_in, trench_of}
 use Rattle.sheet_rules.specs.Sheet.{after_header, after_walk, checked_sheet, group_of, after_sheet, given_sheet, walk_in, group_in, Laid}
-use Rattle.sheet_rules.specs.Promises.{outcome_of, InGround, TrenchSaid, GivenBySheet, GivenAlone}
+use Rattle.sheet_rules.specs.Promises.{outcome_of, InGround, TrenchSaid, GroundSaid, GivenBySheet, GivenAlone}
 use Rattle.sheet_rules.specs.declared.LoadRecord.{LoadRecord}
 use Rattle.sheet_rules.specs.declared.Header.{Header}
 use Rattle.sheet_rules.specs.declared.Trench.{Trench}
+use Rattle.sheet_rules.specs.declared.Ground.{Ground}
 use Rattle.sheet_rules.proofs.HeaderChecks.{accepted_header}
 use Rattle.sheet_rules.proofs.NeighbourChecks.{all_in_trench}
 
@@ -147,18 +148,17 @@ sheet_sound s g p = subst Acceptable (given_group s p) (group_acceptable s (acce
 
 -- in each way out
 module _ (s : List ℕ) where
-  pub given_by_header : {h : Header} → checked_sheet s ≡ Ok h → {t : Trench} → TrenchSaid h t → GivenBySheet s (Ok t)
+  pub given_by_header : {h : Header} → checked_sheet s ≡ Ok h → {g : Ground} → GroundSaid s h g → GivenBySheet s (Ok g)
   unfolding given_sheet
-  given_by_header e {t} d =
-      let a = accepted_sheet s e in
+  given_by_header e {g} d =
       record {
-        answer = ap G.accepted (trench_group s a d) ∙ rw (e, given_sheet);
-        laid = λ u i. let j : t ≡ u = cc in subst (Laid s) j (trench_laid s a d);
+        answer = ap (λ b. G.accepted (group_in b g.trench)) d.sheet ∙ ap G.accepted (trench_group s (accepted_sheet s e) d.trench) ∙ rw (e, given_sheet);
+        beside = d.sheet;
       }
 
   pub refused_by_sheet : {f : Refusal} → checked_sheet s ≡ Err f → GivenBySheet s (Err f)
   unfolding given_sheet
-  refused_by_sheet e = record { answer = rw (e, given_sheet); laid = λ u i. let z : ◌≡◌ {A = ℕ} 0 1 = cc in absurd (omega arith) }
+  refused_by_sheet e = record { answer = rw (e, given_sheet); beside = tt }
 
 -- ---- without a sheet
 
@@ -170,7 +170,7 @@ module _ (s : List ℕ) (used : Cable) where
   pub no_neighbours : group_in s (record { cable = used; neighbours = 0 }) ≡ only used
   no_neighbours = rw (no_walk s used) refl
 
-  alone_laid : Acceptable (only used) → Laid s (record { cable = used; neighbours = 0 })
+  pub alone_laid : Acceptable (only used) → Laid s (record { cable = used; neighbours = 0 })
   alone_laid a =
       record {
         acceptable = subst Acceptable (sym no_neighbours) a;
@@ -179,12 +179,13 @@ module _ (s : List ℕ) (used : Cable) where
 
 -- in each way out
 module _ (c : Cable) where
-  pub given_by_cable : {used : Cable} → given_cable c ≡ G.accepted (only used) → GivenAlone c (Ok (record { cable = used; neighbours = 0 }))
-  given_by_cable {used} p s =
+  pub given_by_cable : {used : Cable} → given_cable c ≡ G.accepted (only used) → {g : Ground} → g.trench ≡ record { cable = used; neighbours = 0 } → GivenAlone c (Ok g)
+  given_by_cable {used} p {g} t =
+      let group : (s : List ℕ) → group_in s g.trench ≡ only used = λ s. ap (group_in s) t ∙ no_neighbours s used in
       record {
-        answer = ap G.accepted (no_neighbours s used) ∙ sym p;
-        laid = λ u i. let j : ◌≡◌ {A = Trench} (record { cable = used; neighbours = 0 }) u = cc in subst (Laid s) j (alone_laid s used (given_sound c (only used) p));
+        answer = ap G.accepted (group g.sheet.now) ∙ sym p;
+        beside = λ s. record { group = group s ∙ sym (group g.sheet.now); laid = subst (Laid s) (sym t) (alone_laid s used (given_sound c (only used) p)) };
       }
 
   pub refused_by_cable : {f : Refusal} → given_cable c ≡ G.refused f → GivenAlone c (Err f)
-  refused_by_cable p s = record { answer = sym p; laid = λ u i. let z : ◌≡◌ {A = ℕ} 0 1 = cc in absurd (omega arith) }
+  refused_by_cable p = record { answer = sym p; beside = tt }

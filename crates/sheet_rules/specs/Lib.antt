@@ -6,5 +6,7 @@ pub mod Walk
 pub mod Chain
 pub mod Neighbours
 pub mod Sheet
+pub mod OneProof
+pub mod Ground
 pub mod Promises
 pub mod ExampleSheets

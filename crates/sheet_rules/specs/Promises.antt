@@ -1,16 +1,18 @@
 -- What the functions on a sheet ask and promise.
-use Rattle.std.specs.Prelude.{◌≡◌, List, ℕ, ◌≤◌, ⊤, Option, Result, Ok, Err}
-use Rattle.cable_rules.specs.Group.{Given, only, alone, given_cable}
+use Rattle.std.specs.Prelude.{◌≡◌, List, ℕ, ◌≤◌, ⊤, Option, Result, Ok, Err, IfOk}
+use Rattle.cable_rules.specs.Group.{only, alone, given_cable}
 use Rattle.cable_rules.specs.declared.Cable.{Cable}
 use Rattle.sheet_rules.specs.Header.{checked_header}
 use Rattle.sheet_rules.specs.Records.{record_at, checked_record}
 use Rattle.sheet_rules.specs.Walk.{Walk, reached, refused}
 use Rattle.sheet_rules.specs.Chain.{age}
 use Rattle.sheet_rules.specs.Neighbours.{above, checked_neighbour}
-use Rattle.sheet_rules.specs.Sheet.{checked_sheet, given_sheet, as_given_in, OnlyLaid}
+use Rattle.sheet_rules.specs.Sheet.{checked_sheet, given_sheet, group_in, Laid}
+use Rattle.sheet_rules.specs.Ground.{group_at, as_given_in}
 use Rattle.sheet_rules.specs.declared.Header.{Header}
 use Rattle.sheet_rules.specs.declared.LoadRecord.{LoadRecord}
 use Rattle.sheet_rules.specs.declared.Trench.{Trench}
+use Rattle.sheet_rules.specs.declared.Ground.{Ground}
 use Rattle.sheet_rules.specs.declared.Links.{Links}
 use Rattle.sheet_rules.specs.declared.Links.TheVariants.{Load, Neighbours}
 use Rattle.refusals.specs.declared.Refusal.{Refusal}
@@ -58,14 +60,21 @@ pub record TrenchSaid (h : Header) (t : Trench) : Type 0 where
   pub cable : only t.cable ≡ alone h.cable
   pub neighbours : t.neighbours ≡ h.neighbours
 
--- a check's trench beside some bytes is what is given
-pub record GivenIn (s : List ℕ) (given : Given) (r : Result Trench Refusal) : Type 0 where
-  pub answer : as_given_in s r ≡ given
-  pub laid : OnlyLaid s r
+pub record GroundSaid (s : List ℕ) (h : Header) (g : Ground) : Type 0 where
+  pub sheet : g.sheet.now ≡ s
+  pub trench : TrenchSaid h g.trench
 
-abbrev pub GivenBySheet : List ℕ → Result Trench Refusal → Type 0
-GivenBySheet s = GivenIn s (given_sheet s)
+-- what is given by a sheet lies beside its bytes
+pub record GivenBySheet (s : List ℕ) (r : Result Ground Refusal) : Type 0 where
+  pub answer : as_given_in r ≡ given_sheet s
+  pub beside : IfOk r (λ g. g.sheet.now ≡ s)
 
--- "without a sheet there are no neighbours": whatever bytes stand beside it
-abbrev pub GivenAlone : Cable → Result Trench Refusal → Type 0
-GivenAlone c r = (s : List ℕ) → GivenIn s (given_cable c) r
+-- one group beside whatever bytes
+pub record AnyBeside (g : Ground) (s : List ℕ) : Type 0 where
+  pub group : group_in s g.trench ≡ group_at g
+  pub laid : Laid s g.trench
+
+-- "without a sheet there are no neighbours"
+pub record GivenAlone (c : Cable) (r : Result Ground Refusal) : Type 0 where
+  pub answer : as_given_in r ≡ given_cable c
+  pub beside : IfOk r (λ g. (s : List ℕ) → AnyBeside g s)

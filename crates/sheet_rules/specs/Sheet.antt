@@ -50,12 +50,3 @@ group_in s t = record { cable = t.cable; neighbours = neighbours_in (walk_in s t
 pub record Laid (s : List ℕ) (t : Trench) : Type 0 where
   pub acceptable : Acceptable (group_in s t)
   pub records : walk_in s t ≡ reached (records_in (walk_in s t))
-
--- a check's trench as what is given
-abbrev pub as_given_in : List ℕ → Result Trench Refusal → Given
-as_given_in s (Ok t) = accepted (group_in s t)
-as_given_in s (Err f) = G.refused f
-
--- where a check accepts, all of it is accepted
-abbrev pub OnlyLaid : List ℕ → Result Trench Refusal → Type 0
-OnlyLaid s r = (t : Trench) → r ≡ Ok t → Laid s t

@@ -2,6 +2,9 @@
 // document 02, note 2.
 #![tactic(auto)]
 
+ghost use Rattle.sheet_rules.specs.Sheet.{Laid};
+ghost use Rattle.sheet_rules.specs.OneProof.{laid_prop};
+
 use cable_rules::Cable;
 
 // What stands before the records: the cable, the starting current in A, the first link, and the first of the neighbours' links, 0 in a short header.
@@ -28,6 +31,14 @@ pub struct LoadRecord {
 pub struct Trench {
     pub cable: Cable,
     pub neighbours: usize,
+}
+
+// A cable in use beside the bytes that its neighbours stand in: all of it is accepted. Without a sheet there are no bytes, and the link is 0.
+#[derive(Clone, Copy)]
+pub struct Ground<'a> {
+    pub sheet: &'a [u8],
+    pub trench: Trench,
+    pub ghost laid: { Laid sheet.now trench } by { laid_prop sheet.now trench },
 }
 
 // Which chain a walk is along. The definitions and the laws of either chain are said once over it; a trait with the check, the measure and its law as ghost

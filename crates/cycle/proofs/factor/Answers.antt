@@ -8,10 +8,7 @@ use Rattle.cycle_rules.proofs.Answers.{answer_given}
 use Rattle.cycle_rules.proofs.Said.{said}
 use Rattle.cycle.proofs.factor.Goals as goal
 
-pub factor_given-requires : goal.factor_given-requires
-factor_given-requires c = (c.given_alone.ensures _).laid
-
 pub returns : goal.returns
 returns c =
     said (given_sound _) (good_length (e_int w16) day_hours c.args.hours _ c.well_formed.1.0)
-    (answer_given _ (sym (c.given_alone.ensures _).answer) c.factor_given.ensures)
+    (answer_given _ (sym c.given_alone.ensures.answer) c.factor_given.ensures)

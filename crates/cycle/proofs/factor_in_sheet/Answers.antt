@@ -11,9 +11,6 @@ use Rattle.cycle.proofs.factor_in_sheet.Goals as goal
 pub given-requires : goal.given-requires
 given-requires c = tt
 
-pub factor_given-requires : goal.factor_given-requires
-factor_given-requires c = c.given.ensures.laid
-
 pub returns : goal.returns
 returns c =
     said (sheet_sound _) (good_length (e_int w16) day_hours c.args.hours _ c.well_formed.1.0)

@@ -12,7 +12,7 @@ returns-in-Some c = hour_refused _ _ (sym c.first_above.ensures.answer ∙ c.in-
 
 pub returns-then-highest_load-eq0 : goal.returns-then-highest_load-eq0
 returns-then-highest_load-eq0 c =
-    let day = good_length (e_int w16) day_hours c.args.hours _ c.well_formed.1.1.0 in
+    let day = good_length (e_int w16) day_hours c.args.hours _ c.well_formed.1.0 in
     nothing_refused _ _ (sym c.first_above.ensures.answer ∙ c.in_default.is) day (sym c.highest_load.ensures ∙ c.if-highest_load-eq0.true)
 
 pub returns : goal.returns

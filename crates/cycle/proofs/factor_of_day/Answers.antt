@@ -11,9 +11,6 @@ use Rattle.cycle.proofs.factor_of_day.Goals as goal
 pub loop-i-init : goal.loop-i-init
 loop-i-init c = (omega arith, none_filled refl)
 
-pub share_of-answer-requires : goal.share_of-answer-requires
-share_of-answer-requires c = c.requires.laid
-
 pub returns-in_default : goal.returns-in_default
 returns-in_default c =
     absurd (hour_not_refused _ c.loop-i.i (omega arith) (sym c.share_of-answer.ensures ∙ c.in_default.is))
@@ -24,7 +21,7 @@ loop-i-preserved c =
     (omega arith, next_filled v.invariant.1 (omega arith) (hour_answered _ v.i (sym c.share_of-answer.ensures ∙ c.in-Pair.is)))
 
 pub largest_sum-requires : goal.largest_sum-requires
-largest_sum-requires c = filled_shared c.loop-i.invariant.1 (omega arith) _ c.requires.loaded
+largest_sum-requires c = filled_shared c.loop-i.invariant.1 (omega arith) _ c.requires
 
 pub largest_factor-requires : goal.largest_factor-requires
 largest_factor-requires c = c.largest_sum.ensures.1

@@ -6,7 +6,7 @@ use Rattle.history.proofs.rise.Goals as goal
 
 pub walked-requires-clause-begins : goal.walked-requires-clause-begins
 walked-requires-clause-begins c =
-    begins_plain _ (sym c.check_sheet-checked.ensures.answer ∙ c.in-Ok.is) c.trench_of-trench.ensures c.before_first-first.ensures
+    begins_plain _ (sym c.check_sheet-checked.ensures.answer ∙ c.in-Ok.is) c.ground_of-ground.ensures c.before_first-first.ensures
 
 pub returns-in-Err : goal.returns-in-Err
 returns-in-Err c =

@@ -3,7 +3,7 @@ use Rattle.history_rules.proofs.AtRecord.{AtRecord}
 use Rattle.history.proofs.walked.Given as goal
 
 abbrev pub invariant-loop-last : goal.invariant-loop-last
-invariant-loop-last g l = AtRecord l.sheet l.trench l.at
+invariant-loop-last g l = AtRecord l.ground l.at
 
 abbrev pub decreases-loop-last : goal.decreases-loop-last
 decreases-loop-last g l = l.at.last.minutes

@@ -5,7 +5,7 @@ use Rattle.pair.proofs.AtNeighbour.{group_from, AtNeighbour}
 use Rattle.pair.proofs.sums_in.Given as goal
 
 abbrev pub invariant-loop-at : goal.invariant-loop-at
-invariant-loop-at l = AtNeighbour l.sheet (group_from l.sheet l.used l.initial.at) l.seconds l.diffusion l.sums l.at
+invariant-loop-at l = AtNeighbour l.ground.sheet.now (group_from l.ground.sheet.now l.used l.initial.at) l.seconds l.diffusion l.sums l.at
 
 abbrev pub decreases-loop-at : goal.decreases-loop-at
 decreases-loop-at l = above l.at

@@ -5,8 +5,5 @@ use Rattle.share_rules.proofs.Answers.{answer_given}
 use Rattle.share_rules.proofs.Promises.{said}
 use Rattle.share.proofs.share.Goals as goal
 
-pub share_given-requires : goal.share_given-requires
-share_given-requires c = (c.given_alone.ensures _).laid
-
 pub returns : goal.returns
-returns c = said (given_sound _) (answer_given _ (sym (c.given_alone.ensures _).answer) c.share_given.ensures)
+returns c = said (given_sound _) (answer_given _ (sym c.given_alone.ensures.answer) c.share_given.ensures)

@@ -1,14 +1,11 @@
 -- `share::share_given` hands on the refusal of what was handed in, or answers for what is given. Assumes nothing.
 use mathlib.Core.Path.{ap}
-use Rattle.sheet_rules.specs.Sheet.{as_given_in}
+use Rattle.sheet_rules.specs.Ground.{as_given_in}
 use Rattle.share_rules.proofs.Answers.{answer_given, answer_refused}
 use Rattle.share.proofs.share_given.Goals as goal
 
-pub share_of-requires : goal.share_of-requires
-share_of-requires c = c.requires _ c.in-Ok.is
-
 pub returns-in-Ok : goal.returns-in-Ok
-returns-in-Ok c = answer_given _ (ap (as_given_in _) c.in-Ok.is) c.share_of.ensures
+returns-in-Ok c = answer_given _ (ap as_given_in c.in-Ok.is) c.share_of.ensures
 
 pub returns-in-Err : goal.returns-in-Err
-returns-in-Err c = answer_refused _ (ap (as_given_in _) c.in-Err.is)
+returns-in-Err c = answer_refused _ (ap as_given_in c.in-Err.is)

@@ -8,8 +8,5 @@ use Rattle.share.proofs.share_in_sheet.Goals as goal
 pub given-requires : goal.given-requires
 given-requires c = tt
 
-pub share_given-requires : goal.share_given-requires
-share_given-requires c = c.given.ensures.laid
-
 pub returns : goal.returns
 returns c = said (sheet_sound _) (answer_given _ (sym c.given.ensures.answer) c.share_given.ensures)

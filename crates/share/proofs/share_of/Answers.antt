@@ -9,8 +9,7 @@ returns-then-outside c = minutes_refused _ _ (sym c.outside.ensures ∙ c.if-out
 
 pub pair_of-requires : goal.pair_of-requires
 pair_of-requires c =
-    let laid = c.requires in
-    record { laid = laid; accepted = minutes_accepted _ _ (sym c.outside.ensures ∙ c.if-outside.false) laid.acceptable }
+    record { accepted = minutes_accepted _ _ (sym c.outside.ensures ∙ c.if-outside.false) c.args.ground.laid.acceptable }
 
 pub returns : goal.returns
 returns c =

@@ -1,5 +1,5 @@
 -- The loop's invariant: the walk from the record that is reached comes to what the whole walk does. The measure is the turns left. Assumes nothing.
-use Rattle.std.proofs.Common.{◌≡◌, Err, refl, ◌∙◌, rules}
+use Rattle.std.proofs.Common.{◌≡◌, Err, ◌∙◌, rules}
 use Rattle.sheet_rules.proofs.EitherChain.{passes, is_refused, goes_nearer, stays}
 use Rattle.sheet.proofs.check_chain.Goals as goal
 

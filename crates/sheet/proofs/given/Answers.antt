@@ -10,4 +10,4 @@ returns-in_err-header c =
     subst (GivenBySheet c.args.sheet.now) r (refused_by_sheet _ (sym c.check_sheet.ensures.answer ∙ c.in_err-header.was))
 
 pub returns : goal.returns
-returns c = given_by_header _ (sym c.check_sheet.ensures.answer ∙ c.in_ok-header.was) c.trench_of.ensures
+returns c = given_by_header _ (sym c.check_sheet.ensures.answer ∙ c.in_ok-header.was) c.ground_of.ensures

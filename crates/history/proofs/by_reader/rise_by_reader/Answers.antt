@@ -8,12 +8,12 @@ use Rattle.history.proofs.by_reader.rise_by_reader.Goals as goal
 pub returns-in_default : goal.returns-in_default
 returns-in_default c =
     let accepted : checked_sheet c.args.sheet.now ≡ Ok c.in-Ok.header = sym c.check_sheet-checked.ensures.answer ∙ c.in-Ok.is in
-    absurd (header_not_missing _ accepted c.trench_of-trench.ensures (sym c.record_read-read.ensures.answer ∙ c.in_default.is))
+    absurd (header_not_missing _ accepted (sym c.record_read-read.ensures.answer ∙ c.in_default.is))
 
 pub walked-requires-clause-begins : goal.walked-requires-clause-begins
 walked-requires-clause-begins c =
     let accepted : checked_sheet c.args.sheet.now ≡ Ok c.in-Ok.header = sym c.check_sheet-checked.ensures.answer ∙ c.in-Ok.is in
-    begins_read _ accepted c.trench_of-trench.ensures (sym c.record_read-read.ensures.answer ∙ c.in-Some.is)
+    begins_read _ accepted c.ground_of-ground.ensures (sym c.record_read-read.ensures.answer ∙ c.in-Some.is)
 
 pub returns-in-Err : goal.returns-in-Err
 returns-in-Err c =
