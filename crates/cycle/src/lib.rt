@@ -36,7 +36,7 @@ pub fn factor(cable: Cable, hours: [u16; DAY_HOURS]) -> FactorAnswer
     factor_given(sheet::given_alone(cable), hours)
 }
 
-// The factor of the cable of a sheet, with its neighbours. The sheet is only read.
+// The factor of the cable of a sheet, with its neighbours. The sheet is only read. Two calls over one body, as README and the C interface name them.
 pub fn factor_in_sheet(sheet: &[u8], hours: [u16; DAY_HOURS]) -> FactorAnswer
     ensures { FactorSaid (given_sheet sheet.now) hours result }
 {
@@ -82,7 +82,8 @@ pub fn parts(answer: FactorAnswer) -> Parts
     }
 }
 
-// The factor of a day. The six shares, at hours of 60 minutes, are worked out once for all 24 hours.
+// The factor of a day. The six shares, at hours of 60 minutes, are worked out once for all 24 hours. They are set by their index, since after an `iter_mut` a
+// proof knows no element.
 fn factor_of_day(ground: Ground, hours: [u16; DAY_HOURS]) -> FactorAnswer
     requires { 0 < highest_load hours }
     ensures { result ≡ Factor (largest_factor (heating_sum (hour_pair (group_at ground.entry)) hours (reference_hour (hour_pair (group_at ground.entry)) hours))) }

@@ -22,7 +22,8 @@ pub fn current(cable: Cable, h: u32, r: u32, minutes: u32) -> CurrentAnswer
     current_given(sheet::given_alone(cable), h, r, minutes)
 }
 
-// The current that the cable of a sheet may carry, with its neighbours. The sheet is only read.
+// The current that the cable of a sheet may carry, with its neighbours. The sheet is only read. Two calls over one body, as README and the C interface name
+// them.
 pub fn current_in_sheet(sheet: &[u8], h: u32, r: u32, minutes: u32) -> CurrentAnswer
     ensures { CurrentSaid (given_sheet sheet.now) h r minutes result }
 {

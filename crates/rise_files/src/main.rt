@@ -108,7 +108,8 @@ fn sheet_named(rt: &HostRuntime, k: usize) -> std::io::Result<fs::File> {
     }
 }
 
-// The line of the sheet that argument k names; whether the two walks answer alike.
+// The line of the sheet that argument k names; whether the two walks answer alike. That k is below `most_words` is asked here and in the functions that count on
+// from it: a struct for it would hold the one number.
 fn report_sheet(rt: &HostRuntime, k: usize) -> bool
     requires { k < most_words }
 {

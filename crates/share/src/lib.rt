@@ -23,7 +23,8 @@ pub fn share(cable: Cable, minutes: u32) -> ShareAnswer
     share_given(sheet::given_alone(cable), minutes)
 }
 
-// The share after `minutes` of the cable of a sheet, with its neighbours. The sheet is only read.
+// The share after `minutes` of the cable of a sheet, with its neighbours. The sheet is only read. Two calls over one body, as README and the C interface name
+// them.
 pub fn share_in_sheet(sheet: &[u8], minutes: u32) -> ShareAnswer
     ensures { ShareSaid (given_sheet sheet.now) minutes result }
 {

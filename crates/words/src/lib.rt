@@ -43,6 +43,7 @@ pub fn read(
         return Err(Fault::Count);
     }
     let mut values = [0u32; ROOM];
+    // By index: a word that is no number ends the call, and after an `iter_mut` a proof knows no element.
     for k in 0..wanted {
         values[k] = word_at(rt, first + k).ok_or(Fault::NotWhole(k + 1))?;
     }
