@@ -14,8 +14,8 @@ use Rattle.emergency_rules.specs.Answer.{stated_current, CurrentSaid}
 use Rattle.commands.specs.Names.{share_word, factor_word, current_word}
 use Rattle.words.specs.Words.{cable_fields}
 use Rattle.asked.specs.Hours.{HoursFrom}
-use Rattle.asked.specs.declared.Asked.{Asked}
-use Rattle.asked.specs.declared.Asked.TheVariants.{Share, Factor, Current}
+use Rattle.commands.specs.declared.Asked.{Asked}
+use Rattle.commands.specs.declared.Asked.TheVariants.{Share, Factor, Current}
 
 abbrev pub share_line : ShareAnswer → List ℕ
 share_line answer = line_of share_word stated_share answer

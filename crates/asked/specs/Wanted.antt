@@ -2,8 +2,8 @@
 use Rattle.std.specs.Prelude.{Bool, cond, ℕ, ◌+◌}
 use Rattle.cycle_rules.specs.Day.{day_hours}
 use Rattle.words.specs.Words.{cable_fields}
-use Rattle.asked.specs.declared.Asked.{Asked}
-use Rattle.asked.specs.declared.Asked.TheVariants.{Share, Factor, Current}
+use Rattle.commands.specs.declared.Asked.{Asked}
+use Rattle.commands.specs.declared.Asked.TheVariants.{Share, Factor, Current}
 
 -- how many numbers are asked with: minutes; hours; preload, limit and minutes
 abbrev pub more_of : Asked → ℕ

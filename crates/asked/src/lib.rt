@@ -7,19 +7,10 @@ ghost use Rattle.words.specs.Words.{cable_fields, numbers_room};
 ghost use Rattle.asked.specs.Wanted.{more_of, wanted_by};
 ghost use Rattle.asked.specs.Hours.{HoursFrom, most_hour};
 
+pub use commands::Asked;
 use cycle_rules::DAY_HOURS;
+use std::array;
 use words::{CABLE_FIELDS, ROOM};
-
-// What is asked of a cable, or of the sheet in a file.
-#[derive(Clone, Copy)]
-pub enum Asked {
-    Share,
-    Factor,
-    Current,
-}
-
-// In A: the largest load that 16 bits hold.
-const MOST_HOUR: u32 = 65535;
 
 // How many numbers it takes: a cable's fields, where no file is named, and what is asked.
 pub fn wanted(asked: Asked, named: bool) -> usize
@@ -44,19 +35,11 @@ pub fn hours_from(values: [u32; ROOM], from: usize) -> [u16; DAY_HOURS]
     requires { from ≤ cable_fields }
     ensures { HoursFrom from values result }
 {
-    let mut hours = [0u16; DAY_HOURS];
-    for k in 0..DAY_HOURS {
-        hours[k] = narrowed(values[from + k]);
-    }
-    hours
+    array::from_fn(|k| narrowed(values[from + k]))
 }
 
 fn narrowed(amperes: u32) -> u16
     ensures { result ≡ min amperes most_hour }
 {
-    if amperes < MOST_HOUR {
-        amperes as u16
-    } else {
-        MOST_HOUR as u16
-    }
+    u16::try_from(amperes).unwrap_or(u16::MAX)
 }

@@ -5,9 +5,9 @@ use native.Mathlib.Omega.{arith}
 use lib.IntN.{pos}
 use Rattle.bounds.specs.Pair.{Pair, as_bounds, as_pair, add_p, less_p, scaled_p, times_p, at_most_p}
 use Rattle.bounds.specs.Operations.{point_b, add_b, neg_b, scaled_b, times_b, at_most_b}
-use Rattle.bounds.specs.Promises.{Sized, largest, ScaledRoom, TimesRoom, DividedRoom}
+use Rattle.bounds.specs.Promises.{Sized, largest, ScaledRoom, TimesRoom}
 use Rattle.bounds.specs.declared.Bounds.{Bounds}
-use Rattle.bounds.proofs.Pairs.{pair_sized, add_room, less_pair, less_room, times_pair, at_most_pair, divided_room}
+use Rattle.bounds.proofs.Pairs.{pair_sized, add_room, less_pair, less_room, times_pair, at_most_pair}
 use Rattle.model.specs.Scale.{one, million, beta_one, surface_one, beta_to_surface, surface_to_share, attainment_one, exactly}
 use Rattle.model.specs.Exponential.{exp_pair}
 use Rattle.model.specs.Share.{beta, surface_factor, attainment, share_of}
@@ -88,9 +88,6 @@ module _ (fast slow w : ℕ) (h : w ≤ million) where
 
   pub yet_to_rise_part : PartOf attainment_one (as_bounds (yet_to_rise fast slow w))
   yet_to_rise_part = record { whole_small = omega arith; part_most = pair_up_to (yet_to_rise fast slow w) yet_to_rise_under }
-
-pub risen_room : (p : Pair) → DividedRoom (as_bounds (less_p attainment_one p)) million
-risen_room p = divided_room (less_p attainment_one p) (omega arith) (omega (arith, (less_under attainment_one p).high))
 
 -- ---- the share
 pub factor_asked : {k : ℕ} (j n : Pair) → k ≤ million → FactorAsked (as_bounds (exactly k)) (as_bounds (beta j n))

@@ -21,7 +21,7 @@ pub struct Sums {
     pub logarithm: Bounds,
 }
 
-// 1, in millionths: the share, k and the weight of the fast part; and the same as an end of a pair, as below.
+// 1, in millionths: the share, k and the weight of the fast part; and the same as an end of a pair, as below, by `as`, since a constant can call no `try_from`.
 const MILLION: u64 = 1000000;
 
 const MILLION_END: i64 = MILLION as i64;
@@ -107,10 +107,8 @@ pub fn joined(sums: Sums, near: u64, image: u64, diffusion: u64) -> Sums
 {
     let own = integral::logarithm(near, image);
     let heat = heat_of(2000 * near, 2000 * image, diffusion, own);
-    let heats = sums.heat;
-    let logarithms = sums.logarithm;
-    let heat_sum = heats.add(heat);
-    let logarithm_sum = logarithms.add(own);
+    let heat_sum = sums.heat.add(heat);
+    let logarithm_sum = sums.logarithm.add(own);
     Sums {
         heat: heat_sum,
         logarithm: logarithm_sum,
@@ -122,9 +120,7 @@ pub fn attained_share(sums: Sums, k: u64, w: u64, fast: u64, slow: u64, seconds:
     requires { ShareAsked sums k w fast slow seconds }
     ensures { result ≡ as_bounds (share_of (surface_factor (exactly k) (beta (as_pair sums.heat) (as_pair sums.logarithm))) (attainment w fast slow seconds)) }
 {
-    let heat = sums.heat;
-    let logarithm = sums.logarithm;
-    let surface = surface_factor(Bounds::whole(k), beta(heat, logarithm));
+    let surface = surface_factor(Bounds::whole(k), beta(sums.heat, sums.logarithm));
     let attained = attainment(w, fast, slow, seconds);
     surface
         .scaled_mul(attained, SURFACE_TO_SHARE)

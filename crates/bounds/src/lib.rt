@@ -10,12 +10,13 @@ ghost use Rattle.bounds.specs.Promises.{Sized, largest, ScaledRoom, QuotientRoom
 ghost use Rattle.bounds.specs.Promises.{Point, Sum, Negation, Product, ScaledProduct, Quotient, Multiple, Divided, Cut, Floor, Ceiling};
 
 // A lower and an upper bound of a number, in whole units.
-#[derive(Clone, Copy)]
+#[derive(Clone, Copy, PartialEq, Eq)]
 pub struct Bounds {
     pub low: i64,
     pub high: i64,
 }
 
+// Methods by value, the form that document 01, 'Language form for each place', names.
 impl Bounds {
     // The pair of one number.
     pub fn point(n: i64) -> Bounds
@@ -63,9 +64,10 @@ impl Bounds {
         let lh = self.low * other.high;
         let hl = self.high * other.low;
         let hh = self.high * other.high;
-        let low = least(least(ll, lh), least(hl, hh));
-        let high = most(most(ll, lh), most(hl, hh));
-        Bounds { low, high }
+        Bounds {
+            low: ll.min(lh).min(hl.min(hh)),
+            high: ll.max(lh).max(hl.max(hh)),
+        }
     }
 
     // Encloses x · y / scale, for pairs not below 0.
@@ -105,28 +107,30 @@ impl Bounds {
         requires { DividedRoom self d }
         ensures { Divided self d result }
     {
-        let low = floor_div(self.low, d);
-        let high = ceil_div(self.high, d);
-        Bounds { low, high }
+        Bounds {
+            low: floor_div(self.low, d),
+            high: ceil_div(self.high, d),
+        }
     }
 
     // Encloses each x that is at most top.
     pub fn at_most(self, top: i64) -> Bounds
         ensures { Cut self top result }
     {
-        let low = least(self.low, top);
-        let high = least(self.high, top);
-        Bounds { low, high }
+        Bounds {
+            low: self.low.min(top),
+            high: self.high.min(top),
+        }
     }
 }
 
-// n / d rounded down, toward minus infinity: of -1 - m it is -1 - m / d.
+// n / d rounded down, toward minus infinity: of -1 - m, which is !m, it is !(m / d). The library's div_euclid takes no divisor of 2^63 or more.
 pub fn floor_div(n: i64, d: u64) -> i64
     requires { 0 < d }
     ensures { Floor n d result }
 {
     if n < 0 {
-        below_zero(depth(n) / d)
+        !signed(natural(!n) / d)
     } else {
         signed(natural(n) / d)
     }
@@ -140,19 +144,7 @@ pub fn ceil_div(n: i64, d: u64) -> i64
     -floor_div(-n, d)
 }
 
-fn least(a: i64, b: i64) -> i64
-    ensures { result ≡ lesser a b }
-{
-    if a < b { a } else { b }
-}
-
-fn most(a: i64, b: i64) -> i64
-    ensures { result ≡ greater a b }
-{
-    if a < b { b } else { a }
-}
-
-// The ways between signed and natural numbers. A number below 0 is -1 - m, and m is its depth.
+// The ways between signed and natural numbers. `as` is proved to lose nothing; `try_from` would hand back an error that no caller can meet.
 pub fn natural(n: i64) -> u64
     requires { T (non_neg n) }
     ensures { result ≡ up n }
@@ -167,20 +159,7 @@ pub fn signed(m: u64) -> i64
     m as i64
 }
 
-fn depth(n: i64) -> u64
-    requires { lt_z n (pos 0) ≡ true }
-    ensures { result ≡ mag n }
-{
-    (-1 - n) as u64
-}
-
-fn below_zero(m: u64) -> i64
-    requires { m < 2 ^ 63 }
-    ensures { result ≡ negsuc m }
-{
-    -1 - (m as i64)
-}
-
+// Not a `From`, which could not ask that both ends are below 2^63.
 pub fn from_naturals(low: u64, high: u64) -> Bounds
     requires { (low < 2 ^ 63) × (high < 2 ^ 63) }
     ensures { result ≡ as_bounds (record { low = low; high = high }) }

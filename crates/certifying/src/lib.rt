@@ -17,22 +17,11 @@ const MOST_CURRENT: u32 = 10000;
 // A share of all, in millionths.
 const MILLION: u64 = 1000000;
 
-// By bisection: low is certified and high is not, or is past the end.
 pub fn largest_certified(rated: u32, h: u32, r: u32, g: u64) -> u32
     requires { (InRange rated h r g) × (h * h ≤ steady_limit r) }
     ensures { result ≡ largest_certified rated h r (pos g) }
 {
-    let mut low: u32 = 0;
-    let mut high: u32 = MOST_CURRENT + 1;
-    while 1 < high - low {
-        let middle = low + (high - low) / 2;
-        if certified(rated, h, r, g, middle) {
-            low = middle;
-        } else {
-            high = middle;
-        }
-    }
-    low
+    numbers::largest_passing(MOST_CURRENT, |i| certified(rated, h, r, g, i))
 }
 
 // The certifying rule, with both sides moved so that nothing is subtracted. A limit of r percent of the rated rise is 100 · r
@@ -44,6 +33,6 @@ fn certified(rated: u32, h: u32, r: u32, g: u64, i: u32) -> bool
     let rated_squared = numbers::square(rated);
     let preload = numbers::square(h) * rated_squared;
     let load = RATED_LOAD * numbers::square(i);
-    let limit = (RATED as u64) * (r as u64) * rated_squared;
+    let limit = u64::from(RATED) * u64::from(r) * rated_squared;
     load * g + preload * MILLION <= limit * MILLION + preload * g
 }

@@ -2,67 +2,44 @@
 #![tactic(auto)]
 
 ghost use Rattle.std.specs.Prelude.{◌≡◌};
-ghost use Rattle.commands.specs.Names.{command_of, asks_help, asks_version};
+ghost use Rattle.commands.specs.Names.{command_of};
 
-#[derive(Clone, Copy)]
-pub enum Command {
+// What is asked of a cable, or of the sheet in a file.
+#[derive(Clone, Copy, PartialEq, Eq)]
+pub enum Asked {
     Share,
     Factor,
     Current,
+}
+
+#[derive(Clone, Copy, PartialEq, Eq)]
+pub enum Command {
+    Calculate(Asked),
     Rise,
     Explain,
     Help,
     Version,
-    Unknown,
 }
 
-// The command that a word names, `Unknown` where it names none.
-pub fn command_of(word: &[u8]) -> Command
+// The command that a word names. No name has bytes that are not UTF-8.
+pub fn command_of(word: &[u8]) -> Option<Command>
     ensures { result ≡ command_of word.now }
 {
-    if text::same(word, b"share") {
-        return Command::Share;
-    }
-    if text::same(word, b"factor") {
-        return Command::Factor;
-    }
-    if text::same(word, b"current") {
-        return Command::Current;
-    }
-    if text::same(word, b"rise") {
-        return Command::Rise;
-    }
-    if text::same(word, b"explain") {
-        return Command::Explain;
-    }
-    if asks_help(word) {
-        return Command::Help;
-    }
-    if asks_version(word) {
-        return Command::Version;
-    }
-    Command::Unknown
+    named(std::str::from_utf8(word).ok()?)
 }
 
-// Whether a word is a name of the help.
-fn asks_help(word: &[u8]) -> bool
-    ensures { result ≡ asks_help word.now }
+#[tactic(auto, using(crate::proofs::ByName::by_name, crate::proofs::ByName::by_none), unfolding(crate::specs::Names::command_of))]
+fn named(word: &str) -> Option<Command>
+    ensures { result ≡ command_of word.now }
 {
-    if text::same(word, b"help") {
-        return true;
+    match word {
+        "share" => Some(Command::Calculate(Asked::Share)),
+        "factor" => Some(Command::Calculate(Asked::Factor)),
+        "current" => Some(Command::Calculate(Asked::Current)),
+        "rise" => Some(Command::Rise),
+        "explain" => Some(Command::Explain),
+        "help" | "--help" | "-h" => Some(Command::Help),
+        "version" | "--version" => Some(Command::Version),
+        _ => None,
     }
-    if text::same(word, b"--help") {
-        return true;
-    }
-    text::same(word, b"-h")
-}
-
-// Whether a word is a name of the version.
-fn asks_version(word: &[u8]) -> bool
-    ensures { result ≡ asks_version word.now }
-{
-    if text::same(word, b"version") {
-        return true;
-    }
-    text::same(word, b"--version")
 }

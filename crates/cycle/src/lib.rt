@@ -36,7 +36,7 @@ pub fn factor(cable: Cable, hours: [u16; DAY_HOURS]) -> FactorAnswer
     factor_given(sheet::given_alone(cable), hours)
 }
 
-// The factor of the cable of a sheet, with its neighbours. The sheet is only read.
+// The factor of the cable of a sheet, with its neighbours. The sheet is only read. Two calls over one body, as README and the C interface name them.
 pub fn factor_in_sheet(sheet: &[u8], hours: [u16; DAY_HOURS]) -> FactorAnswer
     ensures { FactorSaid (given_sheet sheet.now) hours result }
 {
@@ -72,17 +72,18 @@ pub fn factor_of(ground: Ground, hours: [u16; DAY_HOURS]) -> FactorAnswer
     factor_of_day(ground, hours)
 }
 
-// What an answer states.
+// What an answer states. No From, which would have to stand beside the answer's type, in a crate that has definitions alone.
 pub fn parts(answer: FactorAnswer) -> Parts
     ensures { result ≡ parts_of (stated_factor answer) }
 {
     match answer {
-        FactorAnswer::Factor(m) => refusals::of_value(m),
-        FactorAnswer::Refused(refusal) => refusals::of_refusal(refusal),
+        FactorAnswer::Factor(m) => Parts::from(m),
+        FactorAnswer::Refused(refusal) => Parts::from(refusal),
     }
 }
 
-// The factor of a day. The six shares, at hours of 60 minutes, are worked out once for all 24 hours.
+// The factor of a day. The six shares, at hours of 60 minutes, are worked out once for all 24 hours. They are set by their index, since after an `iter_mut` a
+// proof knows no element.
 fn factor_of_day(ground: Ground, hours: [u16; DAY_HOURS]) -> FactorAnswer
     requires { 0 < highest_load hours }
     ensures { result ≡ Factor (largest_factor (heating_sum (hour_pair (group_at ground.entry)) hours (reference_hour (hour_pair (group_at ground.entry)) hours))) }
@@ -92,7 +93,7 @@ fn factor_of_day(ground: Ground, hours: [u16; DAY_HOURS]) -> FactorAnswer
     for i in 0..HEATING_HOURS {
         let answer = share::share_of(ground, HOUR * (i as u32 + 1));
         let ShareAnswer::Pair(pair) = answer else {
-            return FactorAnswer::Refused(refusals::refusal_in(share::parts(answer)));
+            return FactorAnswer::Refused(Refusal::from(share::parts(answer)));
         };
         shares[i] = pair;
     }

@@ -3,7 +3,7 @@ use Rattle.std.specs.Prelude.{◌≡◌, List, ℕ, zero, suc, ◌*◌, ◌≤�
 use Rattle.bounds.specs.Operations.{point_b}
 use Rattle.bounds.specs.Promises.{Sized}
 use Rattle.bounds.specs.declared.Bounds.{Bounds}
-use Rattle.cycle_rules.specs.Day.{day_hours, highest_load, squared_loads}
+use Rattle.cycle_rules.specs.Day.{day_hours, highest_load}
 use Rattle.cycle_rules.specs.Heating.{common_divisor, million}
 
 -- The pairs of six shares in a list, as G(1), G(2), ..
@@ -19,12 +19,6 @@ most_divisor = day_hours * (65535 * 65535)
 pub record Shared (shares : List Bounds) (hours : List ℕ) : Type 0 where
   pub sized : (i : ℕ) → Sized million (pairs_of shares (suc i))
   pub loaded : 0 < highest_load hours
-
--- An hour of the day, and the mean of all 24 in its common units.
-pub record AtHour (hours : List ℕ) (hour mean : ℕ) : Type 0 where
-  pub of_day : hour < day_hours
-  pub mean_is : mean ≡ squared_loads hours day_hours
-  pub mean_to : mean ≤ most_divisor
 
 -- The common divisor of the day.
 pub record DivisorOf (hours : List ℕ) (divisor : ℕ) : Type 0 where

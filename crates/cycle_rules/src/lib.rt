@@ -8,6 +8,7 @@ use refusals::Refusal;
 pub const DAY_HOURS: usize = 24;
 
 // The factor in thousandths, or the first refusal: of the cable or the sheet, then 10, 11.
+// An enum of its own and no Result: document 01, 'Language form for each place', has the refusal as a case of each answer enum.
 #[derive(Clone, Copy)]
 pub enum FactorAnswer {
     Factor(u32),

@@ -22,7 +22,8 @@ pub fn current(cable: Cable, h: u32, r: u32, minutes: u32) -> CurrentAnswer
     current_given(sheet::given_alone(cable), h, r, minutes)
 }
 
-// The current that the cable of a sheet may carry, with its neighbours. The sheet is only read.
+// The current that the cable of a sheet may carry, with its neighbours. The sheet is only read. Two calls over one body, as README and the C interface name
+// them.
 pub fn current_in_sheet(sheet: &[u8], h: u32, r: u32, minutes: u32) -> CurrentAnswer
     ensures { CurrentSaid (given_sheet sheet.now) h r minutes result }
 {
@@ -47,12 +48,12 @@ fn rated_of(given: Result<Ground, Refusal>) -> u32
     }
 }
 
-// What an answer states.
+// What an answer states. No From, which would have to stand beside the answer's type, in a crate that has definitions alone.
 pub fn parts(answer: CurrentAnswer) -> Parts
     ensures { result ≡ parts_of (stated_current answer) }
 {
     match answer {
-        CurrentAnswer::Current(amperes) => refusals::of_value(amperes),
-        CurrentAnswer::Refused(refusal) => refusals::of_refusal(refusal),
+        CurrentAnswer::Current(amperes) => Parts::from(amperes),
+        CurrentAnswer::Refused(refusal) => Parts::from(refusal),
     }
 }

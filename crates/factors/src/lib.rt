@@ -14,22 +14,11 @@ const MOST_FACTOR: u32 = 5000;
 // 10^12: a factor's thousandths² times a sum's millionths.
 const MOST_HEATING: i64 = 1000000000000;
 
-// By bisection: low is allowed and high is not, or is past the end.
 pub fn largest_factor(sum: Bounds) -> u32
     requires { Sized most_sum sum }
     ensures { result ≡ largest_factor sum.high }
 {
-    let mut low: u32 = 0;
-    let mut high: u32 = MOST_FACTOR + 1;
-    while 1 < high - low {
-        let middle = low + (high - low) / 2;
-        if allowed(sum, middle) {
-            low = middle;
-        } else {
-            high = middle;
-        }
-    }
-    low
+    numbers::largest_passing(MOST_FACTOR, |m| allowed(sum, m))
 }
 
 fn allowed(sum: Bounds, m: u32) -> bool

@@ -16,13 +16,14 @@ use share::ShareAnswer;
 // In percent: of a preload, of the rated current; of a limit, of the rated rise.
 const MOST_PERCENT: u32 = 200;
 
-// The current from what the share answers: its refusal, that of what was handed in or 9; 12 or 13; or the amperes.
+// The current from what the share answers: its refusal, that of what was handed in or 9; 12 or 13; or the amperes. Rated current, preload and limit stay three
+// numbers, as the calls take them.
 pub fn after_share(answer: ShareAnswer, rated: u32, h: u32, r: u32) -> CurrentAnswer
     requires { Rated rated answer }
     ensures { result ≡ after_share rated h r answer }
 {
     let ShareAnswer::Pair(pair) = answer else {
-        return CurrentAnswer::Refused(refusals::refusal_in(share::parts(answer)));
+        return CurrentAnswer::Refused(Refusal::from(share::parts(answer)));
     };
     if ranges::outside(h, 0, MOST_PERCENT) {
         return CurrentAnswer::Refused(Refusal {

@@ -1,66 +1,65 @@
 // What a refusal says: its condition, as document 01's table ('When the desk is told no') and document 02's notes word it, and what its place is.
+use crate::say;
 use std::io;
-use std::io::{Error, Print};
+use std::io::Print;
 
 // The condition of a number.
 pub fn refusal(rt: &HostRuntime, number: u32) {
-    if let Err(error) = condition(rt, number) {
-        lost(rt, error);
-    }
+    explain(rt, number, None);
 }
 
 // The condition of a number, and its place.
 pub fn refusal_at(rt: &HostRuntime, number: u32, place: u32) {
-    if let Err(error) = condition_and_place(rt, number, place) {
-        lost(rt, error);
+    explain(rt, number, Some(place));
+}
+
+fn explain(rt: &HostRuntime, number: u32, place: Option<u32>) {
+    let Some(condition) = condition(number) else {
+        say::complaint(rt, b"rating: no refusal has this number\n");
+        return;
+    };
+    if let Err(error) = explained(rt, condition, number, place) {
+        report::fail(rt, b"rating: the explanation cannot be written", error);
     }
 }
 
-fn condition_and_place(rt: &HostRuntime, number: u32, place: u32) -> io::Result<()> {
-    condition(rt, number)?;
-    place_of(rt, number, place)
+// Each of the following that hands back an `io::Result` says whether what it has to say was written, or why not. A complaint counts as written: there is
+// nowhere else to tell it.
+
+fn explained(rt: &HostRuntime, condition: &str, number: u32, place: Option<u32>) -> io::Result<()> {
+    out(rt, condition)?;
+    match place {
+        Some(place) => place_of(rt, number, place),
+        None => Ok(()),
+    }
 }
 
-fn lost(rt: &HostRuntime, error: Error) {
-    report::fail(rt, b"rating: the explanation cannot be written", error);
+fn out(rt: &HostRuntime, text: &str) -> io::Result<()> {
+    rt.stdout().write_all(text.as_bytes())
 }
 
-// Each of the following says whether what it has to say was written, or why not. A complaint counts as written: there is nowhere else to tell it.
-
-fn out(rt: &HostRuntime, text: &[u8]) -> io::Result<()> {
-    rt.stdout().write_all(text)
-}
-
-fn told(rt: &HostRuntime, text: &[u8]) -> io::Result<()> {
-    let _ = rt.stderr().write_all(text);
-    Ok(())
-}
-
-fn condition(rt: &HostRuntime, number: u32) -> io::Result<()> {
+// The condition, or none where no refusal has the number.
+fn condition(number: u32) -> Option<&'static str> {
     match number {
-        1 => out(rt, b"length is neither 36 + 6n nor 38 + 6n, n 0 to 48\n"),
-        2 => out(rt, b"field outside its range, first such\n"),
-        3 => out(rt, b"slow rate above fast\n"),
-        4 => out(rt, b"starting current above 4,000\n"),
-        5 => out(rt, b"link above n\n"),
-        6 => out(rt, b"record's minutes out of range\n"),
-        7 => out(rt, b"record's amperes above 4,000\n"),
-        8 => out(rt, b"minutes not below the record before\n"),
-        9 => out(rt, b"minutes asked outside 1 to 2,880\n"),
-        10 => out(rt, b"hour above 4,000 A, first such\n"),
-        11 => out(rt, b"all hours 0\n"),
-        12 => out(rt, b"h outside 0 to 200, or r outside 1 to 200\n"),
-        13 => out(rt, b"h\xc2\xb2 above 100\xc2\xb7r\n"),
-        14 => out(
-            rt,
-            b"neighbour's link above n or, unless 0, not above the record holding it\n",
-        ),
-        15 => out(
-            rt,
-            b"neighbour's offset beyond 3,000 mm either way, or depth outside 300 to 5,000\n",
-        ),
-        16 => out(rt, b"neighbour's c below d\n"),
-        _ => told(rt, b"rating: no refusal has this number\n"),
+        1 => Some("length is neither 36 + 6n nor 38 + 6n, n 0 to 48\n"),
+        2 => Some("field outside its range, first such\n"),
+        3 => Some("slow rate above fast\n"),
+        4 => Some("starting current above 4,000\n"),
+        5 => Some("link above n\n"),
+        6 => Some("record's minutes out of range\n"),
+        7 => Some("record's amperes above 4,000\n"),
+        8 => Some("minutes not below the record before\n"),
+        9 => Some("minutes asked outside 1 to 2,880\n"),
+        10 => Some("hour above 4,000 A, first such\n"),
+        11 => Some("all hours 0\n"),
+        12 => Some("h outside 0 to 200, or r outside 1 to 200\n"),
+        13 => Some("h² above 100·r\n"),
+        14 => Some("neighbour's link above n or, unless 0, not above the record holding it\n"),
+        15 => {
+            Some("neighbour's offset beyond 3,000 mm either way, or depth outside 300 to 5,000\n")
+        }
+        16 => Some("neighbour's c below d\n"),
+        _ => None,
     }
 }
 
@@ -68,104 +67,89 @@ fn condition(rt: &HostRuntime, number: u32) -> io::Result<()> {
 fn place_of(rt: &HostRuntime, number: u32, place: u32) -> io::Result<()> {
     match number {
         2 => field(rt, place),
-        5 => link(rt, place, b"record 0: the header's first link\n"),
-        6 => record(rt, place, b": its minutes, 1 to 2,880\n"),
-        7 => record(rt, place, b": its amperes, 0 to 4,000\n"),
+        5 => link(rt, place, "record 0: the header's first link\n"),
+        6 => record(rt, place, ": its minutes, 1 to 2,880\n"),
+        7 => record(rt, place, ": its amperes, 0 to 4,000\n"),
         8 => record(
             rt,
             place,
-            b": its minutes, below those of the record before\n",
+            ": its minutes, below those of the record before\n",
         ),
         10 => hour(rt, place),
         12 => input(rt, place),
-        14 => link(rt, place, b"record 0: the header's second link\n"),
+        14 => link(rt, place, "record 0: the header's second link\n"),
         15 => record(
             rt,
             place,
-            b": its offset, 3,000 mm either way at most, and depth, 300 to 5,000 mm\n",
+            ": its offset, 3,000 mm either way at most, and depth, 300 to 5,000 mm\n",
         ),
         16 => record(
             rt,
             place,
-            b": its distance from the cable's axis, not below the cable's diameter\n",
+            ": its distance from the cable's axis, not below the cable's diameter\n",
         ),
-        _ => none(rt, number, place),
+        _ if place == 0 => out(rt, "no place is named\n"),
+        _ => no_such_place(rt),
     }
 }
 
 fn no_such_place(rt: &HostRuntime) -> io::Result<()> {
-    told(rt, b"rating: this refusal has no such place\n")
+    say::complaint(rt, b"rating: this refusal has no such place\n");
+    Ok(())
 }
 
 // The fields and ranges of document 01's table 'The cable'.
 fn field(rt: &HostRuntime, place: u32) -> io::Result<()> {
     match place {
-        1 => out(rt, b"field 1: outer diameter, 0.1 mm, 100 to 1,500\n"),
-        2 => out(rt, b"field 2: depth of axis, mm, 300 to 5,000\n"),
+        1 => out(rt, "field 1: outer diameter, 0.1 mm, 100 to 1,500\n"),
+        2 => out(rt, "field 2: depth of axis, mm, 300 to 5,000\n"),
         3 => out(
             rt,
-            b"field 3: soil diffusivity, 10^-9 m\xc2\xb2/s, 100 to 2,000, or 0 for 500\n",
+            "field 3: soil diffusivity, 10^-9 m²/s, 100 to 2,000, or 0 for 500\n",
         ),
-        4 => out(rt, b"field 4: surface ratio, millionths, 0 to 1,000,000\n"),
-        5 => out(rt, b"field 5: fast weight, millionths, 0 to 1,000,000\n"),
+        4 => out(rt, "field 4: surface ratio, millionths, 0 to 1,000,000\n"),
+        5 => out(rt, "field 5: fast weight, millionths, 0 to 1,000,000\n"),
         6 => out(
             rt,
-            b"field 6: fast rate, millionths per second, 1 to 100,000\n",
+            "field 6: fast rate, millionths per second, 1 to 100,000\n",
         ),
         7 => out(
             rt,
-            b"field 7: slow rate, millionths per second, 1 to 100,000\n",
+            "field 7: slow rate, millionths per second, 1 to 100,000\n",
         ),
-        8 => out(rt, b"field 8: rated current, A, 50 to 2,000\n"),
+        8 => out(rt, "field 8: rated current, A, 50 to 2,000\n"),
         _ => no_such_place(rt),
     }
 }
 
-fn link(rt: &HostRuntime, place: u32, header: &[u8]) -> io::Result<()> {
-    if place == 0 {
-        return out(rt, header);
+fn link(rt: &HostRuntime, place: u32, header: &str) -> io::Result<()> {
+    match place {
+        0 => out(rt, header),
+        _ => record(rt, place, ": its next link\n"),
     }
-    record(rt, place, b": its next link\n")
 }
 
-fn record(rt: &HostRuntime, place: u32, what: &[u8]) -> io::Result<()> {
-    if place == 0 || 48 < place {
-        return no_such_place(rt);
+fn record(rt: &HostRuntime, place: u32, what: &str) -> io::Result<()> {
+    match place {
+        1..=48 => print!(rt; "record {place}{what}"),
+        _ => no_such_place(rt),
     }
-    numbered(rt, b"record ", place, what)
 }
 
 fn hour(rt: &HostRuntime, place: u32) -> io::Result<()> {
-    if 23 < place {
-        return no_such_place(rt);
+    match place {
+        0..=23 => println!(rt; "hour {place}: its amperes, 0 to 4,000"),
+        _ => no_such_place(rt),
     }
-    numbered(rt, b"hour ", place, b": its amperes, 0 to 4,000\n")
 }
 
 fn input(rt: &HostRuntime, place: u32) -> io::Result<()> {
     match place {
         1 => out(
             rt,
-            b"input 1: preload, percent of the rated current, 0 to 200\n",
+            "input 1: preload, percent of the rated current, 0 to 200\n",
         ),
-        2 => out(rt, b"input 2: limit, percent of the rated rise, 1 to 200\n"),
+        2 => out(rt, "input 2: limit, percent of the rated rise, 1 to 200\n"),
         _ => no_such_place(rt),
     }
-}
-
-// A number that is no refusal's has been told so before.
-fn none(rt: &HostRuntime, number: u32, place: u32) -> io::Result<()> {
-    if number == 0 || 16 < number {
-        return Ok(());
-    }
-    if place == 0 {
-        return out(rt, b"no place is named\n");
-    }
-    no_such_place(rt)
-}
-
-fn numbered(rt: &HostRuntime, kind: &[u8], number: u32, what: &[u8]) -> io::Result<()> {
-    out(rt, kind)?;
-    rt.stdout().print(number as u64)?;
-    out(rt, what)
 }

@@ -3,11 +3,9 @@
 
 mod explain;
 mod say;
-mod usage;
 
 pub use explain::{refusal, refusal_at};
 pub use say::{complaint, fault, unread};
-pub use usage::complain;
 
 // The version of the product stands here alone.
 pub fn version(rt: &HostRuntime) {

@@ -9,12 +9,10 @@ pub fn complaint(rt: &HostRuntime, text: &[u8]) {
 // Why numbers are not all there.
 pub fn fault(rt: &HostRuntime, fault: Fault, usage: &[u8]) {
     match fault {
+        Fault::Count => complaint(rt, usage),
         Fault::NotWhole(k) => {
-            complaint(rt, b"rating: number ");
-            let _ = rt.stderr().print(k as u64);
-            complaint(rt, b" is not a whole number of digits only\n");
+            let _ = eprintln!(rt; "rating: number {k} is not a whole number of digits only");
         }
-        _ => complaint(rt, usage),
     }
 }
 

@@ -67,7 +67,8 @@ pub fn wrong_length(size: usize) -> bool
     MOST_RECORDS < count || size != header + RECORD_LENGTH * count
 }
 
-// Field `number` of the table, counted from 1.
+// Field `number` of the table, counted from 1. This and the three functions below ask that the header's bytes are there: a struct with that fact would have one
+// field, and two of the four are named in docs/CONTRACTS.md as functions on bytes.
 fn field(sheet: &[u8], number: usize) -> u32
     requires { (1 ≤ number) × (number ≤ 8) × (short_header ≤ length sheet.now) }
     ensures { result ≡ field_of sheet.now number }

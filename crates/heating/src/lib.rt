@@ -6,7 +6,7 @@ ghost use Rattle.bounds.specs.Operations.{point_b};
 ghost use Rattle.bounds.specs.Promises.{Sized};
 ghost use Rattle.cycle_rules.specs.Day.{day_hours, highest_load, squared_loads};
 ghost use Rattle.cycle_rules.specs.Heating.{heating_hours, relative_load, gathered_load, heating_bounds, reference_hour};
-ghost use Rattle.cycle_rules.specs.Asked.{Shared, AtHour, DivisorOf, pairs_of, most_divisor, most_sum};
+ghost use Rattle.cycle_rules.specs.Asked.{Shared, DivisorOf, pairs_of, most_divisor, most_sum};
 
 use bounds::Bounds;
 use cycle_rules::DAY_HOURS;
@@ -17,16 +17,74 @@ pub const HEATING_HOURS: usize = 6;
 // Millionths in one.
 const MILLION: u64 = 1000000;
 
-// The heating sum of the hottest hour: the one at which it is largest. The mean and the divisor are those of all 24 hours.
+// The hours of a day, with the mean and the divisor of all 24, which are computed once: the sum of the squared loads, 24 times their mean, and 24 times the
+// square of the highest.
+#[derive(Drop)]
+struct Day {
+    hours: [u16; DAY_HOURS],
+    mean: u64,
+    divisor: u64,
+    ghost mean_is: { mean ≡ squared_loads hours day_hours },
+    ghost mean_to: { mean ≤ most_divisor },
+    ghost divisor_of: { DivisorOf hours divisor },
+}
+
+impl Day {
+    fn new(hours: [u16; DAY_HOURS]) -> Day
+        ensures { result.hours ≡ hours }
+    {
+        Day {
+            hours,
+            mean: squared_loads(hours),
+            divisor: common_divisor(hours),
+        }
+    }
+
+    // The heating sum for a reference hour. What multiplies each share is gathered first; the sum is divided, and so rounded, once.
+    fn heating_sum(&self, shares: [Bounds; HEATING_HOURS], hour: usize) -> Bounds
+        requires { (Shared shares self.now.hours) × (hour < day_hours) }
+        ensures { (result ≡ heating_bounds (pairs_of shares) self.now.hours hour) × (Sized most_sum result) }
+    {
+        let mut sum = Bounds::whole(self.mean * MILLION);
+        for (i, share) in shares.iter().enumerate() {
+            sum = sum.add(self.gathered_load(hour, i).mul(*share));
+        }
+        sum.divided(self.divisor)
+    }
+
+    // What multiplies G(i + 1).
+    fn gathered_load(&self, hour: usize, i: usize) -> Bounds
+        requires { (hour < day_hours) × (i < heating_hours) }
+        ensures { result ≡ point_b (gathered_load self.now.hours hour i) }
+    {
+        let here = Bounds::whole(self.relative_load(hour, i));
+        let before = Bounds::whole(self.relative_load(hour, i + 1));
+        here.add(before.neg())
+    }
+
+    // The load i hours before an hour, squared, for i below 6, and at 6 the mean, times 24 each.
+    fn relative_load(&self, hour: usize, i: usize) -> u64
+        requires { (hour < day_hours) × (i ≤ heating_hours) }
+        ensures { (result ≡ relative_load self.now.hours hour i) × (result ≤ most_divisor) }
+    {
+        if i < HEATING_HOURS {
+            let at = (hour + DAY_HOURS - i) % DAY_HOURS;
+            (DAY_HOURS as u64) * numbers::square(u32::from(self.hours[at]))
+        } else {
+            self.mean
+        }
+    }
+}
+
+// The heating sum of the hottest hour: the one at which it is largest.
 pub fn largest_sum(shares: [Bounds; HEATING_HOURS], hours: [u16; DAY_HOURS]) -> Bounds
     requires { Shared shares hours }
     ensures { (result ≡ heating_bounds (pairs_of shares) hours (reference_hour (pairs_of shares) hours)) × (Sized most_sum result) }
 {
-    let mean = squared_loads(hours);
-    let divisor = common_divisor(hours);
-    let mut largest = heating_sum(shares, hours, 0, mean, divisor);
+    let day = Day::new(hours);
+    let mut largest = day.heating_sum(shares, 0);
     for hour in 1..DAY_HOURS {
-        let sum = heating_sum(shares, hours, hour, mean, divisor);
+        let sum = day.heating_sum(shares, hour);
         if largest.high <= sum.high {
             largest = sum;
         }
@@ -34,71 +92,25 @@ pub fn largest_sum(shares: [Bounds; HEATING_HOURS], hours: [u16; DAY_HOURS]) -> 
     largest
 }
 
-// The heating sum for a reference hour. What multiplies each share is gathered first; the sum is divided, and so rounded, once.
-fn heating_sum(
-    shares: [Bounds; HEATING_HOURS],
-    hours: [u16; DAY_HOURS],
-    hour: usize,
-    mean: u64,
-    divisor: u64,
-) -> Bounds
-    requires { (Shared shares hours) × (AtHour hours hour mean) × (DivisorOf hours divisor) }
-    ensures { (result ≡ heating_bounds (pairs_of shares) hours hour) × (Sized most_sum result) }
-{
-    let mut sum = Bounds::whole(mean * MILLION);
-    for i in 0..HEATING_HOURS {
-        sum = sum.add(gathered_load(hours, hour, i, mean).mul(shares[i]));
-    }
-    sum.divided(divisor)
-}
-
 pub fn highest_load(hours: [u16; DAY_HOURS]) -> u16
     ensures { result ≡ highest_load hours }
 {
-    let mut highest: u16 = 0;
-    for k in 0..DAY_HOURS {
-        if highest < hours[k] {
-            highest = hours[k];
-        }
-    }
-    highest
-}
-
-// What multiplies G(i + 1).
-fn gathered_load(hours: [u16; DAY_HOURS], hour: usize, i: usize, mean: u64) -> Bounds
-    requires { (AtHour hours hour mean) × (i < heating_hours) }
-    ensures { result ≡ point_b (gathered_load hours hour i) }
-{
-    let here = Bounds::whole(relative_load(hours, hour, i, mean));
-    let before = Bounds::whole(relative_load(hours, hour, i + 1, mean));
-    here.add(before.neg())
-}
-
-// The load i hours before an hour, squared, for i below 6, and at 6 the mean, times 24 each.
-fn relative_load(hours: [u16; DAY_HOURS], hour: usize, i: usize, mean: u64) -> u64
-    requires { (AtHour hours hour mean) × (i ≤ heating_hours) }
-    ensures { (result ≡ relative_load hours hour i) × (result ≤ most_divisor) }
-{
-    if i < HEATING_HOURS {
-        let at = (hour + DAY_HOURS - i) % DAY_HOURS;
-        (DAY_HOURS as u64) * numbers::square(hours[at] as u32)
-    } else {
-        mean
-    }
+    hours
+        .iter()
+        .fold(0, |highest, amperes| highest.max(*amperes))
 }
 
 fn squared_loads(hours: [u16; DAY_HOURS]) -> u64
     ensures { (result ≡ squared_loads hours day_hours) × (result ≤ most_divisor) }
 {
-    let mut sum: u64 = 0;
-    for k in 0..DAY_HOURS {
-        sum += numbers::square(hours[k] as u32);
-    }
-    sum
+    hours
+        .iter()
+        .map(|amperes| numbers::square(u32::from(*amperes)))
+        .sum()
 }
 
 fn common_divisor(hours: [u16; DAY_HOURS]) -> u64
     ensures { DivisorOf hours result }
 {
-    (DAY_HOURS as u64) * numbers::square(highest_load(hours) as u32)
+    (DAY_HOURS as u64) * numbers::square(u32::from(highest_load(hours)))
 }

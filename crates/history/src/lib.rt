@@ -59,12 +59,12 @@ fn walked<F: Fn(usize) -> Option<LoadRecord>>(
     }
 }
 
-// What an answer states.
+// What an answer states. No From, which would have to stand beside the answer's type, in a crate that has definitions alone.
 pub fn parts(answer: RiseAnswer) -> Parts
     ensures { result ≡ parts_of (stated_rise answer) }
 {
     match answer {
-        RiseAnswer::Rise(pair) => refusals::of_pair(pair),
-        RiseAnswer::Refused(refusal) => refusals::of_refusal(refusal),
+        RiseAnswer::Rise(pair) => Parts::from(pair),
+        RiseAnswer::Refused(refusal) => Parts::from(refusal),
     }
 }

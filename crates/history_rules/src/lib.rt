@@ -7,6 +7,7 @@ use refusals::Refusal;
 use sheet_rules::LoadRecord;
 
 // The rise, low and high, in millionths of the rated steady rise, or the sheet's first refusal.
+// An enum of its own and no Result: document 01, 'Language form for each place', has the refusal as a case of each answer enum.
 #[derive(Clone, Copy)]
 pub enum RiseAnswer {
     Rise(Bounds),

@@ -18,11 +18,11 @@ use Rattle.model.specs.Width.{Under}
 use Rattle.model.proofs.Slice.{slice_at_most_two}
 use Rattle.model.proofs.Parts.{unit_slice_lem, half_slice_lem}
 use Rattle.integral.specs.Knots.{knots, knot_exp}
-use Rattle.integral.specs.Entries.{unit_low, unit_high, half_low, half_high, exp_low, exp_high}
+use Rattle.integral.specs.Entries.{unit_rows, half_rows, exp_rows}
 
--- a row of low ends and high ends
-abbrev row_at : List ℕ → List ℕ → ℕ → Pair
-row_at low high k = record { low = get_or low k 0; high = get_or high k 0 }
+-- a row of a table
+abbrev row_at : List (ℕ × ℕ) → ℕ → Pair
+row_at rows k = let r = get_or rows k (0, 0) in record { low = r.0; high = r.1 }
 
 same : Pair → Pair → Bool
 same p q = eqb p.low q.low && eqb p.high q.high
@@ -36,17 +36,17 @@ same_is p q t =
     ends : {a b c d : ℕ} → a ≡ c → b ≡ d → ◌≡◌ {A = Pair} (record { low = a; high = b }) (record { low = c; high = d })
     ends e f = rw (e, f) refl
 
-pub unit_row : (i : ℕ) → i < units → row_at unit_low unit_high i ≡ unit_slice (units - i)
+pub unit_row : (i : ℕ) → i < units → row_at unit_rows i ≡ unit_slice (units - i)
 unfolding passes same unit_slice slice_pair scaled_p at_most_p quotient_p exp_term exp_sum fraction_exp_pair decayed exp_pair series_term series_sum series_pair
-unit_row i h = same_is (row_at unit_low unit_high i) (unit_slice (units - i)) (at_each (λ j. same (row_at unit_low unit_high j) (unit_slice (units - j))) units i tt h)
+unit_row i h = same_is (row_at unit_rows i) (unit_slice (units - i)) (at_each (λ j. same (row_at unit_rows j) (unit_slice (units - j))) units i tt h)
 
-pub half_row : (k : ℕ) → k < halves → row_at half_low half_high k ≡ half_slice k
+pub half_row : (k : ℕ) → k < halves → row_at half_rows k ≡ half_slice k
 unfolding passes same half_slice power_of_two slice_pair scaled_p at_most_p quotient_p exp_term exp_sum fraction_exp_pair decayed exp_pair series_term series_sum series_pair
-half_row k h = same_is (row_at half_low half_high k) (half_slice k) (at_each (λ j. same (row_at half_low half_high j) (half_slice j)) halves k tt h)
+half_row k h = same_is (row_at half_rows k) (half_slice k) (at_each (λ j. same (row_at half_rows j) (half_slice j)) halves k tt h)
 
-pub exp_row : (j : ℕ) → j < knots → row_at exp_low exp_high j ≡ knot_exp j
+pub exp_row : (j : ℕ) → j < knots → row_at exp_rows j ≡ knot_exp j
 unfolding passes same knot_exp power_of_two scaled_p at_most_p quotient_p exp_term exp_sum fraction_exp_pair decayed exp_pair
-exp_row j h = same_is (row_at exp_low exp_high j) (knot_exp j) (at_each (λ i. same (row_at exp_low exp_high i) (knot_exp i)) knots j tt h)
+exp_row j h = same_is (row_at exp_rows j) (knot_exp j) (at_each (λ i. same (row_at exp_rows i) (knot_exp i)) knots j tt h)
 
 -- no whole slice is more than 2
 pub unit_slice_most : (i : ℕ) → i < units → Under (2 * one) (unit_slice (units - i))

@@ -18,12 +18,12 @@ use Rattle.model.specs.Width.{Under}
 use Rattle.model.proofs.Exponential.{exp_at_most_one, exp_from_16_at_most_122}
 use Rattle.model.proofs.Series.{series_most, series_most_lem, theta_at_most_half}
 use Rattle.model.proofs.Slice.{height_most, theta_half, tau_one, slice_series_most, slice_height_most}
-use Rattle.model.proofs.Parts.{any_some, any_none, any_slice_lem}
+use Rattle.model.proofs.Parts.{any_some, any_none}
 use Rattle.model.proofs.FarSlice.{far_pair_far}
-use Rattle.series.specs.Asked.{SliceFractions, Exponent}
+use Rattle.series.specs.Asked.{SliceFractions, UpTo}
 use Rattle.series.proofs.Products.{scaled_room_under}
 use Rattle.series.proofs.UpTo.{up_to_is}
-use Rattle.integral.specs.Asked.{OneOctave, Span, SliceWithExp, AtKnot, Joint}
+use Rattle.integral.specs.Asked.{OneOctave, Span}
 use Rattle.integral.specs.Knots.{knot_exp}
 use Rattle.integral.proofs.Knots.{unit_knot}
 
@@ -77,29 +77,17 @@ module _ {near far diffusion top : ℕ} (a : Span near far diffusion top) where
   far_slice_is e h = rw (e, scaled_pair, at_most_pair) (ap as_bounds (sym (far_pair_far near far diffusion top h)))
 
 -- ---- one slice more
-module _ {sum slice : Bounds} {top : ℕ} (a : Joint sum slice top) where
+module _ {sum slice : Bounds} {top : ℕ} (top_small : top < 1099511627776) (sum_most : UpTo top sum) (slice_most : UpTo (2 * one) slice) where
   pub joint_room : Sized largest (add_b sum slice)
   joint_room =
-      let u = a.sum_most.under in
-      let v = a.slice_most.under in
-      let z = a.top_small in
-      rw (up_to_is a.sum_most, up_to_is a.slice_most) (add_room (as_pair sum) (as_pair slice) (omega (arith, u.low, v.low)) (omega (arith, u.high, v.high)))
+      let u = sum_most.under in
+      let v = slice_most.under in
+      rw (up_to_is sum_most, up_to_is slice_most) (add_room (as_pair sum) (as_pair slice) (omega (arith, u.low, v.low)) (omega (arith, u.high, v.high)))
 
   pub joint_is : {limit : ℤ} → limit ≡ pos top → at_most_b (add_b sum slice) limit ≡ as_bounds (joined top (as_pair sum) (as_pair slice))
-  joint_is e = rw (up_to_is a.sum_most, up_to_is a.slice_most, e, add_pair, at_most_pair) refl
+  joint_is e = rw (up_to_is sum_most, up_to_is slice_most, e, add_pair, at_most_pair) refl
 
--- ---- e^(-u) where a slice ends
-pub end_before : (far y diffusion : ℕ) → far < y → as_bounds (exp_pair far diffusion) ≡ as_bounds (exp_pair (min far y) diffusion)
-end_before far y diffusion h = let e : min far y ≡ far = omega arith in rw e refl
-
-module _ {y diffusion knot : ℕ} (b : AtKnot y diffusion knot) where
-  pub end_exponent : (v : ℕ) → v ≤ y → Exponent v diffusion
-  end_exponent v h = record { den_some = b.exponent.den_some; small = let s = b.exponent.small in omega arith }
-
-  pub end_at_knot : {far : ℕ} → y ≤ far → as_bounds (knot_exp knot) ≡ as_bounds (exp_pair (min far y) diffusion)
-  end_at_knot {far} h = let e : min far y ≡ y = omega arith in rw e (ap as_bounds b.exp_is)
-
--- ---- and where the far slice begins
+-- ---- e^(-u) where the far slice begins
 pub far_beyond : (near diffusion : ℕ) → far_from * diffusion < near → as_bounds (exp_pair near diffusion) ≡ as_bounds (exp_pair (max near (far_from * diffusion)) diffusion)
 far_beyond near diffusion h = let e : max near (far_from * diffusion) ≡ near = omega arith in rw e refl
 
@@ -110,9 +98,6 @@ far_at_knot {near} {diffusion} s h =
 
 -- ---- what lies between two ends of a slice
 module _ {x y diffusion start end : ℕ} (near far : ℕ) (s : Slice x y diffusion) (es : start ≡ max near x) (ee : end ≡ min far y) where
-  pub cut_is_slice : {decay : Bounds} → start < end → decay ≡ as_bounds (exp_pair (min far y) diffusion) → SliceWithExp start end diffusion decay
-  cut_is_slice h e = record { slice = rw (es, ee) (any_slice_lem near far s (rw (es, ee) at h)); decay_is = rw ee e }
-
   pub cut_some : start < end → as_bounds (slice_pair start end diffusion) ≡ as_bounds (any_slice (max near x) (min far y) diffusion)
   cut_some h = rw (es, ee) (ap as_bounds (any_some (max near x) (min far y) diffusion (rw (es, ee) at h)))
 

@@ -9,14 +9,14 @@ use native.Mathlib.Numerals.{add-one}
 use native.Mathlib.Omega.{arith}
 use Rattle.bounds.specs.Pair.{as_bounds, as_pair}
 use Rattle.bounds.specs.declared.Bounds.{Bounds}
-use Rattle.model.specs.Scale.{far_from, units, halves}
+use Rattle.model.specs.Scale.{one, far_from, units, halves}
 use Rattle.model.specs.Logarithm.{power_of_two}
 use Rattle.model.specs.Integral.{Slice, unit_slice, half_slice, part_slice, unit_part, half_part, joined, unit_sum, half_sum}
 use Rattle.model.proofs.Logarithm.{power_above_zero}
 use Rattle.model.proofs.Parts.{unit_scaled, half_scaled, unit_sum_under, half_sum_under, part_most, part_capped, unit_sum_ends, half_sum_ends}
-use Rattle.series.specs.Asked.{Exponent}
+use Rattle.series.specs.Asked.{Exponent, UpTo}
 use Rattle.series.proofs.UpTo.{pair_up_to, up_to_is}
-use Rattle.integral.specs.Asked.{BelowKnot, WholeSlice, Joint, Begun}
+use Rattle.integral.specs.Asked.{Span, BelowKnot}
 use Rattle.integral.proofs.Rows.{unit_slice_most, half_slice_most}
 use Rattle.integral.proofs.Knots.{unit_knot, half_knot}
 
@@ -40,18 +40,10 @@ record UnitNumber (i : ℕ) : Type 0 where
 unit_number : (i : ℕ) → i < units → UnitNumber i
 unit_number i h = record { n = units - i; some = omega arith; is = refl; above = omega arith; below = omega arith }
 
-module _ {near far diffusion top : ℕ} {first : Bounds} (a : Begun near diffusion top first) where
+module _ {near far diffusion top : ℕ} {first : Bounds} (a : Span near far diffusion top) (first_most : UpTo top first) where
   pub unit_begin : {y : ℕ} → y ≡ far_from * diffusion → UnitTurn near far diffusion top first first y 0
   unfolding unit_sum
-  unit_begin e = record { to = omega arith; y_is = e; sum_is = up_to_is a.first_most }
-
-  -- y is above 1 until all unit slices are summed
-  pub unit_few : {sum : Bounds} {y i : ℕ} → diffusion < y → UnitTurn near far diffusion top first sum y i → i < units
-  unit_few {sum} {y} {i} h t = go (leb units i) refl
-    where
-      go : (b : Bool) → leb units i ≡ b → i < units
-      go true e = let w = leb-true units i e in let k = t.to in let n : far_from - i ≡ 1 = omega arith in absurd (let q = rw n at t.y_is in omega arith)
-      go false e = leb-false units i e
+  unit_begin e = record { to = omega arith; y_is = e; sum_is = up_to_is first_most }
 
   module _ {sum : Bounds} {y i : ℕ} (h : i < units) (t : UnitTurn near far diffusion top first sum y i) where
     ends : (m : UnitNumber i) → (y ≡ suc m.n * diffusion) × (y - diffusion ≡ m.n * diffusion)
@@ -60,26 +52,22 @@ module _ {near far diffusion top : ℕ} {first : Bounds} (a : Begun near diffusi
         go : (n : ℕ) → y ≡ suc n * diffusion → (y ≡ suc n * diffusion) × (y - diffusion ≡ n * diffusion)
         go n e = (e, omega arith)
 
-    pub unit_inside : diffusion ≤ y
-    unit_inside = let e = ends (unit_number i h) in omega arith
-
     unit_turn_slice : Slice (y - diffusion) y diffusion
     unit_turn_slice = let m = unit_number i h in let e = ends m in rw (e.1, e.0) (unit_scaled m.n a.stretch m.some)
 
-    unit_below : BelowKnot (y - diffusion) y diffusion i
+    pub unit_below : BelowKnot (y - diffusion) y diffusion i
     unit_below = record { slice = unit_turn_slice; at_knot = record { numbered = omega arith; exponent = far_exponent unit_turn_slice; exp_is = rw t.y_is (unit_knot i diffusion h a.stretch.diffusion_some) } }
 
+    pub unit_sum_most : UpTo top sum
+    unit_sum_most = rw t.sum_is (pair_up_to _ (unit_sum_under near far diffusion top (as_pair first) first_most.under i))
+
     module _ {all : Bounds} (ea : all ≡ as_bounds (unit_slice (units - i))) where
-      pub unit_whole : WholeSlice (y - diffusion) y diffusion i all
-      unit_whole = record { below = unit_below; all_most = rw ea (pair_up_to _ (unit_slice_most i h)) }
+      pub unit_all_most : UpTo (2 * one) all
+      unit_all_most = rw ea (pair_up_to _ (unit_slice_most i h))
 
       module _ {slice : Bounds} (es : slice ≡ as_bounds (part_slice near far (y - diffusion) y diffusion (as_pair all))) where
-        pub unit_joint : Joint sum slice top
-        unit_joint = record {
-          sum_most = rw t.sum_is (pair_up_to _ (unit_sum_under near far diffusion top (as_pair first) a.first_most.under i));
-          slice_most = rw es (pair_up_to _ (part_most near far (y - diffusion) y diffusion (as_pair all) unit_turn_slice unit_whole.all_most.under));
-          top_small = a.top_small;
-        }
+        pub unit_part_most : UpTo (2 * one) slice
+        unit_part_most = rw es (pair_up_to _ (part_most near far (y - diffusion) y diffusion (as_pair all) unit_turn_slice unit_all_most.under))
 
         pub unit_again : {next : Bounds} → next ≡ as_bounds (joined top (as_pair sum) (as_pair slice)) → UnitTurn near far diffusion top first next (y - diffusion) (i + 1)
         unfolding unit_sum unit_part
@@ -107,7 +95,7 @@ module _ {near far diffusion top : ℕ} {first : Bounds} (a : Begun near diffusi
       go : (b : Bool) → leb y near ≡ b → sum ≡ as_bounds (unit_sum near far diffusion top (as_pair first) units)
       go true e =
           let w = leb-true y near e in
-          t.sum_is ∙ ap as_bounds (sym (rw all at (unit_sum_ends near far diffusion top (as_pair first) a.stretch.diffusion_some a.first_most.under (units - i) i (omega arith) (rw t.y_is at w))))
+          t.sum_is ∙ ap as_bounds (sym (rw all at (unit_sum_ends near far diffusion top (as_pair first) a.stretch.diffusion_some first_most.under (units - i) i (omega arith) (rw t.y_is at w))))
       go false e = let w = leb-false y near e in last (leb units i) refl (omega arith)
         where
           last : (b : Bool) → leb units i ≡ b → y ≤ diffusion → sum ≡ as_bounds (unit_sum near far diffusion top (as_pair first) units)
@@ -139,7 +127,7 @@ record HalfNumbers (near far diffusion start end divisor k : ℕ) : Type 0 where
   room : 2 * divisor * power_of_two left < 18446744073709551616
   small : 2 * divisor < 18446744073709551616
 
-module _ {near far diffusion top : ℕ} {first : Bounds} (a : Begun near diffusion top first) where
+module _ {near far diffusion top : ℕ} {first : Bounds} (a : Span near far diffusion top) (first_most : UpTo top first) where
   pub half_begin : {end : ℕ} → end ≡ min far diffusion → HalfTurn near far diffusion top first first near end diffusion 0
   unfolding half_sum power_of_two
   half_begin e = let s = a.stretch in record {
@@ -150,7 +138,7 @@ module _ {near far diffusion top : ℕ} {first : Bounds} (a : Begun near diffusi
     divisor_is = omega arith;
     fuel = omega (arith, s.near_some, s.diffusion_small);
     room = omega (arith, s.diffusion_small);
-    sum_is = up_to_is a.first_most;
+    sum_is = up_to_is first_most;
   }
 
   module _ {sum : Bounds} {start end divisor k : ℕ} (h : start < diffusion) (t : HalfTurn near far diffusion top first sum start end divisor k) where
@@ -177,22 +165,16 @@ module _ {near far diffusion top : ℕ} {first : Bounds} (a : Begun near diffusi
             least : 0 < power_of_two left → 2 * divisor * power_of_two left < 18446744073709551616 → 2 * divisor < 18446744073709551616
             least p q = omega (arith, mul-le-mul_left (2 * divisor) p)
 
-    pub half_few : k < halves
+    half_few : k < halves
     half_few = let n = numbers in omega arith
 
     pub divisor_small : 2 * divisor < 18446744073709551616
     divisor_small = numbers.small
 
-    pub start_small : 2 * start < 18446744073709551616
-    start_small = let s = a.stretch in omega (arith, s.diffusion_small)
-
-    pub end_small : 2 * end < 18446744073709551616
-    end_small = let s = a.stretch in let n = numbers.end_is in omega (arith, s.diffusion_small)
-
     half_turn_slice : Slice diffusion (2 * diffusion) (2 * divisor)
     half_turn_slice = rw numbers.divisor_is (half_scaled k a.stretch)
 
-    half_below : BelowKnot diffusion (2 * diffusion) (2 * divisor) (units + k)
+    pub half_below : BelowKnot diffusion (2 * diffusion) (2 * divisor) (units + k)
     half_below =
         record {
           slice = half_turn_slice;
@@ -203,17 +185,16 @@ module _ {near far diffusion top : ℕ} {first : Bounds} (a : Begun near diffusi
           };
         }
 
+    pub half_sum_most : UpTo top sum
+    half_sum_most = rw t.sum_is (pair_up_to _ (half_sum_under near far diffusion top (as_pair first) first_most.under k))
+
     module _ {all : Bounds} (ea : all ≡ as_bounds (half_slice k)) where
-      pub half_whole : WholeSlice diffusion (2 * diffusion) (2 * divisor) (units + k) all
-      half_whole = record { below = half_below; all_most = rw ea (pair_up_to _ (half_slice_most k)) }
+      pub half_all_most : UpTo (2 * one) all
+      half_all_most = rw ea (pair_up_to _ (half_slice_most k))
 
       module _ {slice : Bounds} (es : slice ≡ as_bounds (part_slice (2 * start) (2 * end) diffusion (2 * diffusion) (2 * divisor) (as_pair all))) where
-        pub half_joint : Joint sum slice top
-        half_joint = record {
-          sum_most = rw t.sum_is (pair_up_to _ (half_sum_under near far diffusion top (as_pair first) a.first_most.under k));
-          slice_most = rw es (pair_up_to _ (part_most (2 * start) (2 * end) diffusion (2 * diffusion) (2 * divisor) (as_pair all) half_turn_slice half_whole.all_most.under));
-          top_small = a.top_small;
-        }
+        pub half_part_most : UpTo (2 * one) slice
+        half_part_most = rw es (pair_up_to _ (part_most (2 * start) (2 * end) diffusion (2 * diffusion) (2 * divisor) (as_pair all) half_turn_slice half_all_most.under))
 
         slice_is : slice ≡ as_bounds (half_part near far diffusion k)
         unfolding half_part
@@ -243,4 +224,4 @@ module _ {near far diffusion top : ℕ} {first : Bounds} (a : Begun near diffusi
   pub half_done : {sum : Bounds} {start end divisor k : ℕ} → diffusion ≤ start → HalfTurn near far diffusion top first sum start end divisor k → sum ≡ as_bounds (half_sum near far diffusion top (as_pair first) halves)
   half_done {sum} {start} {end} {divisor} {k} h t =
       let e = t.start_is in
-      t.sum_is ∙ ap as_bounds (sym (rw t.few at (half_sum_ends near far diffusion top (as_pair first) a.stretch.diffusion_some a.first_most.under t.left k (omega arith))))
+      t.sum_is ∙ ap as_bounds (sym (rw t.few at (half_sum_ends near far diffusion top (as_pair first) a.stretch.diffusion_some first_most.under t.left k (omega arith))))

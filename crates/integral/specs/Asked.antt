@@ -2,10 +2,9 @@
 use Rattle.std.specs.Prelude.{◌≡◌, ℕ, ◌*◌, ◌≤◌, ◌<◌}
 use Rattle.bounds.specs.Pair.{as_bounds}
 use Rattle.bounds.specs.declared.Bounds.{Bounds}
-use Rattle.model.specs.Scale.{one}
 use Rattle.model.specs.Exponential.{exp_pair}
 use Rattle.model.specs.Integral.{Stretch, Slice}
-use Rattle.series.specs.Asked.{Exponent, UpTo}
+use Rattle.series.specs.Asked.{Exponent}
 use Rattle.integral.specs.Knots.{knots, knot_exp}
 
 -- y lies from x to 2x; half of it times 2^30 stays below 2^64
@@ -42,20 +41,3 @@ pub record AtKnot (y diffusion knot : ℕ) : Type 0 where
 pub record BelowKnot (x y diffusion knot : ℕ) : Type 0 where
   pub slice : Slice x y diffusion
   pub at_knot : AtKnot y diffusion knot
-
--- the same, and a pair of at most 2 that stands for all of it
-pub record WholeSlice (x y diffusion knot : ℕ) (all : Bounds) : Type 0 where
-  pub below : BelowKnot x y diffusion knot
-  pub all_most : UpTo (2 * one) all
-
--- a sum that does not pass `top`, and a slice; `top`, in units of 2^-30, is below 1,024
-pub record Joint (sum slice : Bounds) (top : ℕ) : Type 0 where
-  pub sum_most : UpTo top sum
-  pub slice_most : UpTo (2 * one) slice
-  pub top_small : top < 1099511627776
-
--- what the sums of slices begin with
-pub record Begun (near diffusion top : ℕ) (first : Bounds) : Type 0 where
-  pub stretch : Stretch near diffusion
-  pub first_most : UpTo top first
-  pub top_small : top < 1099511627776

@@ -3,24 +3,45 @@
 
 ghost use Rattle.std.specs.Prelude.{◌≡◌, ◌*◌, ◌<◌, min, max};
 ghost use Rattle.bounds.specs.Pair.{as_bounds, as_pair};
-ghost use Rattle.model.specs.Scale.{far_from, units, halves};
+ghost use Rattle.model.specs.Scale.{one, far_from, units, halves};
 ghost use Rattle.model.specs.Exponential.{exp_pair};
 ghost use Rattle.model.specs.Logarithm.{logarithm_slice, logarithm};
 ghost use Rattle.model.specs.Integral.{Stretch, slice_pair, any_slice, part_slice, joined, unit_sum, half_sum, slice_start, far_pair, heating_integral};
-ghost use Rattle.integral.specs.Asked.{OneOctave, Ratio, Span, SliceWithExp, AtKnot, BelowKnot, WholeSlice, Joint, Begun};
+ghost use Rattle.series.specs.Asked.{UpTo};
+ghost use Rattle.integral.specs.Asked.{OneOctave, Ratio, Span, SliceWithExp, BelowKnot};
 ghost use Rattle.integral.specs.Knots.{knots, knot_exp};
 
 mod tables;
 
 use bounds::Bounds;
 use series::{FAR_FROM, ONE};
-use tables::{EXP_HIGH, EXP_LOW, HALF_HIGH, HALF_LOW, UNIT_HIGH, UNIT_LOW};
+use tables::{EXP, HALF, UNIT};
 
 // ln 2, in units of 2^-30.
 const LN_TWO: Bounds = Bounds {
     low: 744261068,
     high: 744261259,
 };
+
+// The two ends of an integral, squared distances, the diffusion, and the logarithm that no sum of its slices passes.
+#[derive(Clone, Copy)]
+struct Reach {
+    near: u64,
+    far: u64,
+    diffusion: u64,
+    top: u64,
+    ghost span: { Span near far diffusion top },
+}
+
+// A slice from x to y, which lies at a knot.
+#[derive(Clone, Copy)]
+struct KnotSlice {
+    x: u64,
+    y: u64,
+    diffusion: u64,
+    knot: usize,
+    ghost below: { BelowKnot x y diffusion knot },
+}
 
 // How many slices lie between the knots 16, 15, .., 1: the knot 1 has this number.
 const UNITS: usize = 15;
@@ -41,6 +62,7 @@ pub fn logarithm(x: u64, y: u64) -> Bounds
 {
     let mut base = x;
     let mut doublings = 0;
+    // A search for the last doubling, as the model's: how many there are is what it finds, so no `for` counts them.
     while 2 * base <= y {
         base = 2 * base;
         doublings += 1;
@@ -49,12 +71,13 @@ pub fn logarithm(x: u64, y: u64) -> Bounds
 }
 
 // A row of a table: its low end and its high end.
-fn row(low: u32, high: u32) -> Bounds
-    ensures { result ≡ as_bounds (record { low = low; high = high }) }
+fn row(ends: (u32, u32)) -> Bounds
+    ensures { result ≡ as_bounds (record { low = ends.0; high = ends.1 }) }
 {
+    let (low, high) = ends;
     Bounds {
-        low: numbers::wide(low),
-        high: numbers::wide(high),
+        low: i64::from(low),
+        high: i64::from(high),
     }
 }
 
@@ -63,7 +86,7 @@ fn knot_exp(knot: usize) -> Bounds
     requires { knot < knots }
     ensures { result ≡ as_bounds (knot_exp knot) }
 {
-    row(EXP_LOW[knot], EXP_HIGH[knot])
+    row(EXP[knot])
 }
 
 // The integral of e^(-u)/u from x/diffusion to y/diffusion, one slice, in units of 2^-30. `decay` is e^(-u) at its far end.
@@ -77,81 +100,45 @@ fn heat_slice(x: u64, y: u64, diffusion: u64, decay: Bounds) -> Bounds
     height.scaled_mul(bounds::from_naturals(theta, theta + 1), ONE)
 }
 
-fn greatest(a: u64, b: u64) -> u64
-    ensures { result ≡ max a b }
-{
-    if a < b { b } else { a }
-}
-
-// e^(-u) where a slice below a knot ends: at the knot, y, or at a far end before it. In units of 2^-30.
-fn end_exp(far: u64, y: u64, diffusion: u64, knot: usize) -> Bounds
-    requires { AtKnot y diffusion knot }
-    ensures { result ≡ as_bounds (exp_pair (min far y) diffusion) }
-{
-    if far < y {
-        return series::exp_neg(far, diffusion);
+impl KnotSlice {
+    // e^(-u) where the slice ends: at the knot, y, or at a far end before it. In units of 2^-30.
+    fn end_exp(self, far: u64) -> Bounds
+        ensures { result ≡ as_bounds (exp_pair (min far self.y) self.diffusion) }
+    {
+        if far < self.y {
+            return series::exp_neg(far, self.diffusion);
+        }
+        knot_exp(self.knot)
     }
-    knot_exp(knot)
-}
 
-// What lies from near to far of the slice from x to y below a knot, in units of 2^-30: a slice, or nothing.
-fn cut_slice(near: u64, far: u64, x: u64, y: u64, diffusion: u64, knot: usize) -> Bounds
-    requires { BelowKnot x y diffusion knot }
-    ensures { result ≡ as_bounds (any_slice (max near x) (min far y) diffusion) }
-{
-    let start = greatest(near, x);
-    let end = numbers::least(far, y);
-    if start < end {
-        let decay = end_exp(far, y, diffusion, knot);
-        heat_slice(start, end, diffusion, decay)
-    } else {
-        Bounds::whole(0)
+    // What lies from near to far of the slice, in units of 2^-30: a slice, or nothing. Not inlined, so that `part` stays small.
+    #[inline(never)]
+    fn cut(self, near: u64, far: u64) -> Bounds
+        ensures { result ≡ as_bounds (any_slice (max near self.x) (min far self.y) self.diffusion) }
+    {
+        let start = near.max(self.x);
+        let end = far.min(self.y);
+        if start < end {
+            let decay = self.end_exp(far);
+            heat_slice(start, end, self.diffusion, decay)
+        } else {
+            Bounds::whole(0)
+        }
     }
-}
 
-// The same, where the integral of the whole slice, `all`, is at hand.
-fn part_slice(
-    near: u64,
-    far: u64,
-    x: u64,
-    y: u64,
-    diffusion: u64,
-    knot: usize,
-    all: Bounds,
-) -> Bounds
-    requires { WholeSlice x y diffusion knot all }
-    ensures { result ≡ as_bounds (part_slice near far x y diffusion (as_pair all)) }
-{
-    if far <= x {
-        return Bounds::whole(0);
-    }
-    if x < near {
-        return cut_slice(near, far, x, y, diffusion, knot);
-    }
-    if far < y {
-        return cut_slice(near, far, x, y, diffusion, knot);
-    }
-    all
-}
-
-// With one slice more; no sum passes the logarithm `top`. In units of 2^-30.
-fn joined(sum: Bounds, slice: Bounds, top: u64) -> Bounds
-    requires { Joint sum slice top }
-    ensures { result ≡ as_bounds (joined top (as_pair sum) (as_pair slice)) }
-{
-    sum.add(slice).at_most(bounds::signed(top))
-}
-
-// Where the slices begin, a squared distance: what lies beyond FAR_FROM is one far slice.
-fn slice_start(near: u64, far: u64, diffusion: u64) -> u64
-    requires { Stretch near diffusion }
-    ensures { result ≡ slice_start near far diffusion }
-{
-    let edge = FAR_FROM * diffusion;
-    if edge < far {
-        greatest(near, edge)
-    } else {
-        far
+    // The same, where the integral of the whole slice, `all`, is at hand. Inlined, so that a whole slice takes no call.
+    #[inline]
+    fn part(self, near: u64, far: u64, all: Bounds) -> Bounds
+        requires { UpTo (2 * one) all }
+        ensures { result ≡ as_bounds (part_slice near far self.x self.y self.diffusion (as_pair all)) }
+    {
+        if far <= self.x {
+            return Bounds::whole(0);
+        }
+        if self.x < near || far < self.y {
+            return self.cut(near, far);
+        }
+        all
     }
 }
 
@@ -163,70 +150,99 @@ fn far_exp(near: u64, diffusion: u64) -> Bounds
     if FAR_FROM * diffusion < near {
         return series::exp_neg(near, diffusion);
     }
-    // At a constant place, so that no array is made.
-    row(EXP_LOW[0], EXP_HIGH[0])
+    row(EXP[0])
 }
 
-// The far slice, from 0 to e^(-u) at its near end times the logarithm, in units of 2^-30.
-fn far_slice(near: u64, far: u64, diffusion: u64, top: u64) -> Bounds
-    requires { Span near far diffusion top }
-    ensures { result ≡ as_bounds (far_pair near far diffusion top) }
-{
-    if FAR_FROM * diffusion < far {
-        return bounds::from_naturals(0, top)
-            .scaled_mul(far_exp(near, diffusion), ONE)
-            .at_most(bounds::signed(top));
+impl Reach {
+    // With one slice more; no sum passes the logarithm. In units of 2^-30.
+    fn joined(self, sum: Bounds, slice: Bounds) -> Bounds
+        requires sum_most { UpTo self.top sum }
+        requires slice_most { UpTo (2 * one) slice }
+        ensures { result ≡ as_bounds (joined self.top (as_pair sum) (as_pair slice)) }
+    {
+        sum.add(slice).at_most(bounds::signed(self.top))
     }
-    Bounds::whole(0)
-}
 
-// `first` with what lies from near to far of the unit slices, from 16 down to 1 or to the near end, in units of 2^-30.
-fn unit_slices(near: u64, far: u64, diffusion: u64, top: u64, first: Bounds) -> Bounds
-    requires { Begun near diffusion top first }
-    ensures { result ≡ as_bounds (unit_sum near far diffusion top (as_pair first) units) }
-{
-    // A constant array is made where it is read: here, and not at each turn.
-    let low = UNIT_LOW;
-    let high = UNIT_HIGH;
-    let last = greatest(near, diffusion);
-    let mut sum = first;
-    let mut y = FAR_FROM * diffusion;
-    let mut i = 0;
-    while last < y {
-        let x = y - diffusion;
-        let all = row(low[i], high[i]);
-        sum = joined(sum, part_slice(near, far, x, y, diffusion, i, all), top);
-        y = x;
-        i += 1;
+    // Where the slices begin, a squared distance: what lies beyond FAR_FROM is one far slice.
+    fn slice_start(self) -> u64
+        ensures { result ≡ slice_start self.near self.far self.diffusion }
+    {
+        let edge = FAR_FROM * self.diffusion;
+        if edge < self.far {
+            self.near.max(edge)
+        } else {
+            self.far
+        }
     }
-    sum
-}
 
-// `first` with what lies from near to far of the half slices, from 1 down to the near end, in units of 2^-30. Each is one slice of whole numbers
-// with all distances and the diffusion doubled once more.
-fn half_slices(near: u64, far: u64, diffusion: u64, top: u64, first: Bounds) -> Bounds
-    requires { Begun near diffusion top first }
-    ensures { result ≡ as_bounds (half_sum near far diffusion top (as_pair first) halves) }
-{
-    let low = HALF_LOW;
-    let high = HALF_HIGH;
-    let mut sum = first;
-    let mut start = near;
-    let mut end = numbers::least(far, diffusion);
-    let mut divisor = diffusion;
-    let mut k = 0;
-    while start < diffusion {
-        start = 2 * start;
-        end = 2 * end;
-        divisor = 2 * divisor;
-        let all = row(low[k], high[k]);
-        let knot = UNITS + k;
-        let part = part_slice(start, end, diffusion, 2 * diffusion, divisor, knot, all);
-        sum = joined(sum, part, top);
-        end = numbers::least(end, diffusion);
-        k += 1;
+    // The far slice, from 0 to e^(-u) at its near end times the logarithm, in units of 2^-30.
+    fn far_slice(self) -> Bounds
+        ensures { result ≡ as_bounds (far_pair self.near self.far self.diffusion self.top) }
+    {
+        if FAR_FROM * self.diffusion < self.far {
+            return bounds::from_naturals(0, self.top)
+                .scaled_mul(far_exp(self.near, self.diffusion), ONE)
+                .at_most(bounds::signed(self.top));
+        }
+        Bounds::whole(0)
     }
-    sum
+
+    // `first` with what lies of the unit slices, from 16 down to 1 or to the near end, in units of 2^-30.
+    fn unit_slices(self, first: Bounds) -> Bounds
+        requires { UpTo self.top first }
+        ensures { result ≡ as_bounds (unit_sum self.near self.far self.diffusion self.top (as_pair first) units) }
+    {
+        let diffusion = self.diffusion;
+        let last = self.near.max(diffusion);
+        let mut sum = first;
+        let mut y = FAR_FROM * diffusion;
+        for (knot, &ends) in UNIT.iter().enumerate() {
+            if y <= last {
+                break;
+            }
+            let x = y - diffusion;
+            let slice = KnotSlice {
+                x,
+                y,
+                diffusion,
+                knot,
+            };
+            sum = self.joined(sum, slice.part(self.near, self.far, row(ends)));
+            y = x;
+        }
+        sum
+    }
+
+    // `first` with what lies of the half slices, from 1 down to the near end, in units of 2^-30. Each is one slice of whole numbers with all distances and
+    // the diffusion doubled once more.
+    fn half_slices(self, first: Bounds) -> Bounds
+        requires { UpTo self.top first }
+        ensures { result ≡ as_bounds (half_sum self.near self.far self.diffusion self.top (as_pair first) halves) }
+    {
+        let diffusion = self.diffusion;
+        let mut sum = first;
+        let mut start = self.near;
+        let mut end = self.far.min(diffusion);
+        let mut divisor = diffusion;
+        for (k, &ends) in HALF.iter().enumerate() {
+            if diffusion <= start {
+                break;
+            }
+            start = 2 * start;
+            end = 2 * end;
+            divisor = 2 * divisor;
+            let slice = KnotSlice {
+                x: diffusion,
+                y: 2 * diffusion,
+                diffusion: divisor,
+                knot: UNITS + k,
+            };
+            let part = slice.part(start, end, row(ends));
+            sum = self.joined(sum, part);
+            end = end.min(diffusion);
+        }
+        sum
+    }
 }
 
 // The integral of e^(-u)/u from near/diffusion to far/diffusion, in units of 2^-30, summed slice by slice from its far end. `top` is at least
@@ -235,8 +251,19 @@ pub fn heating_integral(near: u64, far: u64, diffusion: u64, top: u64) -> Bounds
     requires { Span near far diffusion top }
     ensures { result ≡ as_bounds (heating_integral near far diffusion top) }
 {
-    let start = slice_start(near, far, diffusion);
-    let beyond = far_slice(near, far, diffusion, top);
-    let to_one = unit_slices(near, start, diffusion, top, beyond);
-    half_slices(near, start, diffusion, top, to_one)
+    let whole = Reach {
+        near,
+        far,
+        diffusion,
+        top,
+    };
+    let beyond = whole.far_slice();
+    let short = Reach {
+        near,
+        far: whole.slice_start(),
+        diffusion,
+        top,
+    };
+    let to_one = short.unit_slices(beyond);
+    short.half_slices(to_one)
 }

@@ -1,5 +1,5 @@
 // The calculations for C and Rust, on numbers and bytes. Each writes its answer as five numbers into a lent array: the refusal's number, 0 for none,
-// the kind and the number of its place, and the values.
+// the kind and the number of its place, and the values. One function for each call, of a cable and of a sheet: these are the names of the C interface.
 #![tactic(auto)]
 
 ghost use Rattle.std.specs.Prelude.{◌≡◌};
@@ -95,8 +95,8 @@ pub extern "C" fn kechmowad_current_in_sheet(
 fn copied(parts: Parts) -> [i64; 5]
     ensures { result ≡ five_of parts }
 {
-    let number = numbers::wide(parts.number as u32);
-    let kind = numbers::wide(parts.kind as u32);
-    let place = numbers::wide(parts.place as u32);
+    let number = i64::from(parts.number);
+    let kind = i64::from(parts.kind);
+    let place = i64::from(parts.place);
     [number, kind, place, parts.first, parts.second]
 }

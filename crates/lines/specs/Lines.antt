@@ -4,7 +4,7 @@ use Rattle.std.specs.Prelude.{◌≡◌, cond, List, [], ◌∷◌, ◌++◌, �
 use Rattle.refusals.specs.Stated.{Stated}
 use Rattle.refusals.specs.Apart.{parts_of}
 use Rattle.refusals.specs.declared.Parts.{Parts}
-use Rattle.text.specs.Writing.{decimal_text, signed_text, line_room, written}
+use Rattle.text.specs.Writing.{decimal_text, signed_text, line_room, line_length, written}
 use Rattle.text.specs.declared.Line.{Line}
 
 abbrev space : List ℕ
@@ -48,4 +48,4 @@ rise_word = 114 ∷ 105 ∷ 115 ∷ 101 ∷ []
 -- What is written in a line, which has room for it.
 pub record Says (line : Line) (text : List ℕ) : Type 0 where
   pub says : written line ≡ text
-  pub room : line.length ≤ line_room
+  pub room : line_length line ≤ line_room

@@ -7,7 +7,8 @@ ghost use Rattle.lines.specs.Lines.{Says, refusal_line, answer_line};
 use refusals::Parts;
 use text::Line;
 
-// By the count of values: `refused NUMBER PLACE`, `WORD VALUE` or `WORD LOW HIGH`.
+// By the count of values, since the parts are plain numbers for the C interface: `refused NUMBER PLACE`, `WORD VALUE` or `WORD LOW HIGH`.
+#[tactic(auto, unfolding(crate::specs::Lines::answer_line))]
 pub fn answer_line(word: &[u8], parts: Parts) -> Line
     requires { length word.now ≤ 8 }
     ensures { Says result (answer_line word.now parts) }
@@ -22,9 +23,12 @@ pub fn answer_line(word: &[u8], parts: Parts) -> Line
     first.with(b" ").with_signed(parts.second).with(b"\n")
 }
 
+#[tactic(auto, unfolding(crate::specs::Lines::refusal_line))]
 fn refusal_line(number: u8, place: u8) -> Line
     ensures { Says result (refusal_line number place) }
 {
-    let refused = Line::empty().with(b"refused ").with_number(number as u64);
-    refused.with(b" ").with_number(place as u64).with(b"\n")
+    let refused = Line::empty()
+        .with(b"refused ")
+        .with_number(u64::from(number));
+    refused.with(b" ").with_number(u64::from(place)).with(b"\n")
 }

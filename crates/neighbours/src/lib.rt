@@ -2,7 +2,7 @@
 #![tactic(auto)]
 
 ghost use Rattle.std.specs.Prelude.{◌≡◌, ◌≤◌, nat_abs};
-ghost use Rattle.exact.specs.Share.{between, source_of};
+ghost use Rattle.exact.specs.Share.{source_of};
 ghost use Rattle.sheet_rules.specs.Neighbours.{signed_of, neighbour_of, most_depth, beside_first};
 ghost use Rattle.sheet_rules.specs.Promises.{InGround, NeighbourSaid};
 
@@ -32,18 +32,10 @@ fn aside(offset: u32) -> u32
     ensures { (result ≡ nat_abs (signed_of offset)) × (result ≤ 32768) }
 {
     if offset < NEGATIVE_FROM {
-        return offset;
+        offset
+    } else {
+        MINUS_ONE.saturating_sub(offset) + 1
     }
-    if offset < MINUS_ONE {
-        return MINUS_ONE - offset + 1;
-    }
-    1
-}
-
-fn difference(a: u32, b: u32) -> u32
-    ensures { result ≡ between a b }
-{
-    if a < b { b - a } else { a - b }
 }
 
 // c² in mm²: the squared distance from a cable at a depth to the axis of a neighbour. Minutes are the offset and amperes the depth: one record may serve both
@@ -52,8 +44,7 @@ pub fn near_of(depth: u32, neighbour: LoadRecord) -> u64
     requires { (depth ≤ 5000) × (neighbour.amperes ≤ most_depth) }
     ensures { result ≡ (source_of depth (neighbour_of neighbour)).near }
 {
-    numbers::square(aside(neighbour.minutes))
-        + numbers::square(difference(depth, neighbour.amperes))
+    numbers::square(aside(neighbour.minutes)) + numbers::square(depth.abs_diff(neighbour.amperes))
 }
 
 // m² in mm²: that to the neighbour's image above ground.
@@ -64,7 +55,8 @@ pub fn image_of(depth: u32, neighbour: LoadRecord) -> u64
     numbers::square(aside(neighbour.minutes)) + numbers::square(depth + neighbour.amperes)
 }
 
-// What was read at the link of the record `before`, or its first refusal.
+// What was read at the link of the record `before`, or its first refusal. `InGround` is asked here and in the two functions of `sheet` that only hand the cable
+// on: a type for it would be made at one place and taken off again here.
 pub fn check_neighbour(
     cable: Cable,
     before: LoadRecord,

@@ -1,6 +1,6 @@
 -- Linear arithmetic on the kit's integers by omega, each being a difference of two natural numbers, and the laws of ring and order that the
 -- kit lacks. `X-lin` says in natural numbers what X says in integers.
-use mathlib.Core.Path.{◌≡◌, refl, ap}
+use mathlib.Core.Path.{◌≡◌, refl, sym, ap}
 use mathlib.Core.Bool.{Bool, true, false, cond}
 use mathlib.Core.Logic.{◌⊎◌, inl, inr, ⊎_elim}
 use Prim.Native.Nat.{ℕ, zero, suc, ◌+◌, ◌*◌, ◌≤◌, ◌<◌}
@@ -10,6 +10,7 @@ use lib.Dec.{T, ltb, leb→le, le→leb, ltb→lt, lt→ltb}
 use lib.IntN.{ℤ, pos, negsuc, neg_ℤ, nat_abs, sub_ℕ, suc_ℤ, ◌+ℤ◌, ◌-ℤ◌, ◌*ℤ◌, *ℤ_comm}
 use lib.Signed.{◌≤ℤ◌, ◌<ℤ◌, le_z, lt_z, ≤ℤ_refl}
 use borrow.Author.Tests.{ltb-true, ltb-false, leb-false}
+use Rattle.std.specs.Int.{int_min, int_max}
 use Rattle.numbers.specs.Integer.{up, dn, lesser, greater}
 
 -- ---- differences of natural numbers
@@ -259,6 +260,31 @@ greater_left a b = greater_left_by a b (lt_z a b) refl
 pub greater_right : (a b : ℤ) → b ≤ℤ greater a b
 unfolding greater
 greater_right a b = greater_right_by a b (lt_z a b) refl
+
+-- they are what the library's `min` and `max` return
+module _ (a b : ℤ) where
+  same : a ≤ℤ b → b ≤ℤ a → a ≡ b
+  same h k = lin_eq a b (omega (arith, le_lin h, le_lin k))
+
+  lesser_by : (s t : Bool) → lt_z b a ≡ s → lt_z a b ≡ t → cond s b a ≡ cond t a b
+  lesser_by true true d e = sym (same (test_passed a b e) (test_passed b a d))
+  lesser_by true false d e = refl
+  lesser_by false true d e = refl
+  lesser_by false false d e = same (test_failed b a d) (test_failed a b e)
+
+  greater_by : (s t : Bool) → lt_z b a ≡ s → lt_z a b ≡ t → cond s a b ≡ cond t b a
+  greater_by true true d e = same (test_passed a b e) (test_passed b a d)
+  greater_by true false d e = refl
+  greater_by false true d e = refl
+  greater_by false false d e = sym (same (test_failed b a d) (test_failed a b e))
+
+  pub min_lesser : int_min a b ≡ lesser a b
+  unfolding lesser
+  min_lesser = lesser_by (lt_z b a) (lt_z a b) refl refl
+
+  pub max_greater : int_max a b ≡ greater a b
+  unfolding greater
+  max_greater = greater_by (lt_z b a) (lt_z a b) refl refl
 
 -- what holds of both holds of the lesser and of the greater
 pub lesser_both : (P : ℤ → Type 0) {a b : ℤ} → P a → P b → P (lesser a b)

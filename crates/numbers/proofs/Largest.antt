@@ -1,12 +1,12 @@
 -- The largest number that passes a test: it is what its properties say, and for a test that falls one number that passes and the next one that
 -- does not decide it, which is what a bisection ends with.
-use mathlib.Core.Path.{◌≡◌, refl}
+use mathlib.Core.Path.{◌≡◌, refl, sym}
 use mathlib.Core.Bool.{Bool, true, false}
 use mathlib.Core.Logic.{⊎_elim}
 use Prim.Native.Nat.{ℕ, zero, suc, ◌+◌, ◌-◌, ◌≤◌, ◌<◌}
 use native.Mathlib.Nat.{eq-or-lt_of_le}
 use native.Mathlib.Omega.{arith}
-use Rattle.numbers.specs.Largest.{largest, Largest, Falling}
+use Rattle.numbers.specs.Largest.{largest, Largest, Falling, LargestPassing}
 
 not_both : {b : Bool} → b ≡ true → b ≡ false → ⊥
 not_both p q = let z : ◌≡◌ {A = ℕ} 0 1 = cc in omega arith
@@ -67,27 +67,20 @@ module _ {test : ℕ → Bool} (falls : Falling test) {top m : ℕ} (within : m 
   pub found_largest : m ≡ largest test top
   found_largest = largest_unique test found (is_largest test (falls.smaller 0 m (omega arith) passes) top)
 
--- ---- bisection: low passes, and high does not or is past the top
+-- ---- bisection: low passes, or is 0, and high does not or is past the top
 
-pub record Between (test : ℕ → Bool) (top low high : ℕ) : Type 0 where
-  pub apart : low < high
-  pub within : high ≤ top + 1
-  pub passes : test low ≡ true
-  pub fails : high ≤ top → test high ≡ false
+from_zero : (test : ℕ → Bool) (n : ℕ) → test 0 ≡ true → (0 < n → test n ≡ true) → test n ≡ true
+from_zero test zero z p = z
+from_zero test (suc n) z p = p (omega arith)
 
-module _ (test : ℕ → Bool) (top : ℕ) where
-  pub whole_range : test 0 ≡ true → Between test top 0 (top + 1)
-  whole_range z = record { apart = omega arith; within = omega arith; passes = z; fails = λ h. absurd (omega arith) }
-
-  module _ {low high : ℕ} (b : Between test top low high) where
-    pub upper_part : (middle : ℕ) → middle < high → test middle ≡ true → Between test top middle high
-    upper_part middle h e = record { apart = h; within = b.within; passes = e; fails = b.fails }
-
-    pub lower_part : (middle : ℕ) → low < middle → middle < high → test middle ≡ false → Between test top low middle
-    lower_part middle l h e =
-        record { apart = l; within = omega (arith, b.within); passes = b.passes; fails = λ h. e }
-
-    pub bisected : Falling test → high - low ≤ 1 → low ≡ largest test top
-    bisected falls h =
-        let next : high ≡ suc low = omega (arith, b.apart) in
-        found_largest falls (omega (arith, b.apart, b.within)) b.passes (λ l. rw next at (b.fails (omega arith)))
+module _ {answer : ℕ → Bool → Type 0} {top low high : ℕ} where
+  pub bisected : low < high → high ≤ top + 1 → (0 < low → answer low true) → (high ≤ top → answer high false) → high - low ≤ 1 → LargestPassing answer top low
+  bisected apart within passes fails close =
+      let next : high ≡ suc low = omega arith in
+      record {
+        is =
+            λ test computes falls z.
+            found_largest falls (omega arith)
+            (from_zero test low z (λ h. sym (computes.says low true (omega arith) (passes h))))
+            (λ l. sym (computes.says (suc low) false l (rw next at (fails (omega arith)))));
+      }

@@ -1,8 +1,8 @@
 -- Signed machine integers of 64 bits. A local holds bits, and an operation sees the integer that those bits stand for: `seen z` is what is
 -- seen of the bits of z. Each law has the shape of a need that an operation leaves: its result fits, or what is seen of its result.
-use mathlib.Core.Path.{◌≡◌, refl}
+use mathlib.Core.Path.{◌≡◌, refl, ap, ◌∙◌}
 use mathlib.Core.Bool.{true, false}
-use Prim.Native.Nat.{ℕ, ◌^◌, ◌<◌}
+use Prim.Native.Nat.{ℕ, suc, ◌-◌, ◌^◌, ◌<◌}
 use native.Mathlib.Omega.{arith}
 use borrow.Author.Tests.{ltb-true}
 use lib.Dec.{T}
@@ -10,7 +10,7 @@ use lib.IntN.{ℤ, pos, negsuc, neg_ℤ, nat_abs, ◌+ℤ◌, ◌-ℤ◌, ◌*�
 use lib.Signed.{lt_z, mag, non_neg}
 use mir.Syntax.{w64}
 use mir.Val.{SFits, Fits, to_z, of_z}
-use mir.Facts.{to_z-of_z}
+use mir.Facts.{to_z-of_z, to_z-neg, to_z_pos}
 use Rattle.numbers.specs.Integer.{up, lesser, greater}
 use Rattle.numbers.proofs.Integers.{lin_eq, add_lin, neg_up, neg_dn, size_neg}
 
@@ -74,6 +74,15 @@ module _ {z : ℤ} (f : SFits w64 z) where
   pub flip_seen : seen (negsuc 0 -ℤ seen z) ≡ flipped z
   flip_seen = rw (to_z-of_z f, flipped_is z) (to_z-of_z (flipped_fits z f))
 
+-- `!x` is -1 - x, whose bits are those that x does not have
+pub flip_bits : (z : ℤ) → SFits w64 z → to_z w64 (18446744073709551615 - of_z w64 z) ≡ flipped z
+flip_bits (pos n) f =
+    let e : 18446744073709551615 - n ≡ 18446744073709551616 - suc n = omega arith in
+    ap (λ (k : ℕ). to_z w64 k) e ∙ to_z-neg w64 n f.sfits
+flip_bits (negsuc n) f =
+    let e : 18446744073709551615 - (18446744073709551616 - suc n) ≡ n = omega (arith, f.sfits) in
+    ap (λ (k : ℕ). to_z w64 k) e ∙ to_z_pos w64 f.sfits
+
 -- a cast to an unsigned number asks that the number is not below 0 and that its size fits
 pub natural_casts : (z : ℤ) → SFits w64 z → T (non_neg z) → T (non_neg z) × Fits w64 (nat_abs z)
 natural_casts (pos n) f t = (tt, record { fits = omega (arith, f.sfits) })
@@ -94,22 +103,3 @@ flipped_size (negsuc n) e = refl
 pub not_below : (z : ℤ) → lt_z z (pos 0) ≡ false → T (non_neg z)
 not_below (pos n) e = tt
 not_below (negsuc n) e = let z : ◌≡◌ {A = ℕ} 0 1 = cc in absurd (omega arith)
-
--- ---- a test `a < b` on what is seen, and the lesser or the greater
-
-module _ {a b : ℤ} (fa : SFits w64 a) (fb : SFits w64 b) where
-  pub lesser_then : lt_z (seen a) (seen b) ≡ true → seen a ≡ lesser a b
-  unfolding lesser
-  lesser_then e = rw (to_z-of_z fa) (rw (rw (to_z-of_z fa, to_z-of_z fb) at e))
-
-  pub lesser_else : lt_z (seen a) (seen b) ≡ false → seen b ≡ lesser a b
-  unfolding lesser
-  lesser_else e = rw (to_z-of_z fb) (rw (rw (to_z-of_z fa, to_z-of_z fb) at e))
-
-  pub greater_then : lt_z (seen a) (seen b) ≡ true → seen b ≡ greater a b
-  unfolding greater
-  greater_then e = rw (to_z-of_z fb) (rw (rw (to_z-of_z fa, to_z-of_z fb) at e))
-
-  pub greater_else : lt_z (seen a) (seen b) ≡ false → seen a ≡ greater a b
-  unfolding greater
-  greater_else e = rw (to_z-of_z fa) (rw (rw (to_z-of_z fa, to_z-of_z fb) at e))

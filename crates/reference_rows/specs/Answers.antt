@@ -1,7 +1,5 @@
 -- What a row asks, of the inputs in its cell, and what is answered: by the public call of its kind, of a cable or of a sheet.
-use Rattle.std.specs.Prelude.{◌≡◌, List, [], ◌∷◌, ℕ, ◌<◌, take}
-use Rattle.text.specs.declared.Number.{Number}
-use Rattle.text.specs.declared.Number.TheVariants.{Whole}
+use Rattle.std.specs.Prelude.{◌≡◌, List, [], ◌∷◌, ℕ, Option, Some, IfSome}
 use Rattle.refusals.specs.Apart.{parts_of}
 use Rattle.refusals.specs.declared.Parts.{Parts}
 use Rattle.cable_rules.specs.Group.{Given, given_cable}
@@ -12,16 +10,11 @@ use Rattle.cycle_rules.specs.Day.{day_hours}
 use Rattle.cycle_rules.specs.Answer.{factor_answer, stated_factor}
 use Rattle.emergency_rules.specs.Answer.{current_answer, stated_current}
 use Rattle.reference_rows.specs.Cells.{value_in, number_from}
-use Rattle.reference_rows.specs.Inputs.{sheet_name, SheetOf, hours_name, HoursTo}
+use Rattle.reference_rows.specs.Inputs.{sheet_name, SheetFrom, hours_name, HoursTo}
 use Rattle.reference_rows.specs.declared.answers.Kind.{Kind}
-use Rattle.reference_rows.specs.declared.answers.Kind.TheVariants.{Share, Factor, Current, ShareInSheet, FactorInSheet, CurrentInSheet, Skipped, Unknown}
-use Rattle.reference_rows.specs.declared.answers.Answer.{Answer}
-use Rattle.reference_rows.specs.declared.answers.Answer.TheVariants.{Said, Unreadable}
-use Rattle.reference_rows.specs.declared.answers.CableRead.{CableRead}
-use Rattle.reference_rows.specs.declared.answers.CableRead.TheVariants as C
-use Rattle.reference_rows.specs.declared.inputs.Sheet.{Sheet}
+use Rattle.reference_rows.specs.declared.answers.Kind.TheVariants.{Share, Factor, Current, ShareInSheet, FactorInSheet, CurrentInSheet}
 
-abbrev pub number_in : List ℕ → List ℕ → Number
+abbrev pub number_in : List ℕ → List ℕ → Option ℕ
 number_in name cell = number_from (value_in name cell)
 
 -- ---- what is given
@@ -52,18 +45,14 @@ abbrev pub rated_name : List ℕ
 rated_name = 114 ∷ 97 ∷ 116 ∷ 101 ∷ 100 ∷ []
 
 pub record CableIn (cell : List ℕ) (cable : Cable) : Type 0 where
-  pub diameter : number_in diameter_name cell ≡ Whole cable.diameter
-  pub depth : number_in depth_name cell ≡ Whole cable.depth
-  pub diffusivity : number_in diffusivity_name cell ≡ Whole cable.diffusivity
-  pub surface_ratio : number_in surface_ratio_name cell ≡ Whole cable.surface_ratio
-  pub fast_weight : number_in fast_weight_name cell ≡ Whole cable.fast_weight
-  pub fast_rate : number_in fast_rate_name cell ≡ Whole cable.fast_rate
-  pub slow_rate : number_in slow_rate_name cell ≡ Whole cable.slow_rate
-  pub rated : number_in rated_name cell ≡ Whole cable.rated
-
-abbrev pub OnlyRead : List ℕ → CableRead → Type 0
-OnlyRead cell (C.Read cable) = CableIn cell cable
-OnlyRead cell C.Unreadable = Unit {0}
+  pub diameter : number_in diameter_name cell ≡ Some cable.diameter
+  pub depth : number_in depth_name cell ≡ Some cable.depth
+  pub diffusivity : number_in diffusivity_name cell ≡ Some cable.diffusivity
+  pub surface_ratio : number_in surface_ratio_name cell ≡ Some cable.surface_ratio
+  pub fast_weight : number_in fast_weight_name cell ≡ Some cable.fast_weight
+  pub fast_rate : number_in fast_rate_name cell ≡ Some cable.fast_rate
+  pub slow_rate : number_in slow_rate_name cell ≡ Some cable.slow_rate
+  pub rated : number_in rated_name cell ≡ Some cable.rated
 
 pub record FromCable (cell : List ℕ) (given : Given) : Type 0 where
   pub cable : Cable
@@ -71,10 +60,9 @@ pub record FromCable (cell : List ℕ) (given : Given) : Type 0 where
   pub gives : given ≡ given_cable cable
 
 pub record FromSheet (cell : List ℕ) (given : Given) : Type 0 where
-  pub sheet : Sheet
-  pub read : SheetOf (value_in sheet_name cell) sheet
-  pub some : 0 < sheet.length
-  pub gives : given ≡ given_sheet (take sheet.length sheet.bytes)
+  pub sheet : List ℕ
+  pub read : SheetFrom (value_in sheet_name cell) sheet
+  pub gives : given ≡ given_sheet sheet
 
 -- ---- what is asked of it: "minutes"; "hours"; "h", "r", "minutes"
 
@@ -89,7 +77,7 @@ limit_name = 114 ∷ []
 
 pub record ShareTo (cell : List ℕ) (given : Given) (said : Parts) : Type 0 where
   pub minutes : ℕ
-  pub read : number_in minutes_name cell ≡ Whole minutes
+  pub read : number_in minutes_name cell ≡ Some minutes
   pub answer : said ≡ parts_of (stated_share (share_answer given minutes))
 
 pub record FactorTo (cell : List ℕ) (given : Given) (said : Parts) : Type 0 where
@@ -101,9 +89,9 @@ pub record CurrentTo (cell : List ℕ) (given : Given) (said : Parts) : Type 0 w
   pub h : ℕ
   pub r : ℕ
   pub minutes : ℕ
-  pub preload : number_in preload_name cell ≡ Whole h
-  pub limit : number_in limit_name cell ≡ Whole r
-  pub read : number_in minutes_name cell ≡ Whole minutes
+  pub preload : number_in preload_name cell ≡ Some h
+  pub limit : number_in limit_name cell ≡ Some r
+  pub read : number_in minutes_name cell ≡ Some minutes
   pub answer : said ≡ parts_of (stated_current (current_answer given h r minutes))
 
 -- ---- what is answered
@@ -114,16 +102,10 @@ pub record Answered (From : Given → Type 0) (To : Given → Parts → Type 0) 
   pub to : To given said
 
 -- What is said is that; of a row that cannot be read nothing is said.
-abbrev pub OnlySaid : (Parts → Type 0) → Answer → Type 0
-OnlySaid Holds (Said said) = Holds said
-OnlySaid Holds Unreadable = Unit {0}
-
-abbrev pub AnswerTo : Kind → List ℕ → Answer → Type 0
-AnswerTo Share cell answer = OnlySaid (Answered (FromCable cell) (ShareTo cell)) answer
-AnswerTo Factor cell answer = OnlySaid (Answered (FromCable cell) (FactorTo cell)) answer
-AnswerTo Current cell answer = OnlySaid (Answered (FromCable cell) (CurrentTo cell)) answer
-AnswerTo ShareInSheet cell answer = OnlySaid (Answered (FromSheet cell) (ShareTo cell)) answer
-AnswerTo FactorInSheet cell answer = OnlySaid (Answered (FromSheet cell) (FactorTo cell)) answer
-AnswerTo CurrentInSheet cell answer = OnlySaid (Answered (FromSheet cell) (CurrentTo cell)) answer
-AnswerTo Skipped cell answer = answer ≡ Unreadable
-AnswerTo Unknown cell answer = answer ≡ Unreadable
+abbrev pub AnswerTo : Kind → List ℕ → Option Parts → Type 0
+AnswerTo Share cell answer = IfSome answer (Answered (FromCable cell) (ShareTo cell))
+AnswerTo Factor cell answer = IfSome answer (Answered (FromCable cell) (FactorTo cell))
+AnswerTo Current cell answer = IfSome answer (Answered (FromCable cell) (CurrentTo cell))
+AnswerTo ShareInSheet cell answer = IfSome answer (Answered (FromSheet cell) (ShareTo cell))
+AnswerTo FactorInSheet cell answer = IfSome answer (Answered (FromSheet cell) (FactorTo cell))
+AnswerTo CurrentInSheet cell answer = IfSome answer (Answered (FromSheet cell) (CurrentTo cell))

@@ -2,8 +2,9 @@
 // The rows stand in the files of this crate's data folder: all of false.tsv are false on purpose, and none of unreadable.tsv can be read.
 #![tactic(auto)]
 
-ghost use Rattle.std.specs.Prelude.{◌+◌, ◌≤◌, ◌<◌, length};
+ghost use Rattle.std.specs.Prelude.{◌≡◌, ◌+◌, ◌≤◌, ◌<◌, length};
 ghost use Rattle.report.specs.Reading.{Within};
+ghost use Rattle.reference_rows.specs.Kinds.{kind_of};
 ghost use Rattle.reference_rows.specs.Counting.{rows_in, table_room, most_rows};
 
 mod answers;
@@ -12,16 +13,20 @@ mod inputs;
 mod results;
 mod verdicts;
 
-use answers::{Answer, Kind};
-use report::Input;
-use std::fs;
-use std::io::Print;
-use verdicts::Verdict;
+use std::{fs, io};
 
 // In bytes. A longer file is told, and not cut.
 const TABLE_ROOM: usize = 65536;
 
-#[derive(Clone, Copy)]
+const TABLES: [&str; 5] = [
+    "reference.tsv",
+    "reference-notes.tsv",
+    "days.tsv",
+    "false.tsv",
+    "unreadable.tsv",
+];
+
+#[derive(Clone, Copy, Default)]
 struct Counts {
     inside: u64,
     outside: u64,
@@ -29,17 +34,11 @@ struct Counts {
 }
 
 fn main(rt: HostRuntime) {
-    let none = Counts {
-        inside: 0,
-        outside: 0,
-        unreadable: 0,
-    };
-    let first = table(&rt, "reference.tsv", none);
-    let second = table(&rt, "reference-notes.tsv", first);
-    let third = table(&rt, "days.tsv", second);
-    let fourth = table(&rt, "false.tsv", third);
-    let all = table(&rt, "unreadable.tsv", fourth);
-    print_counts(&rt, all);
+    let mut counts = Counts::default();
+    for name in TABLES {
+        counts = table(&rt, name, counts);
+    }
+    print_counts(&rt, counts);
 }
 
 // The counts with the rows of a file, each of which has its line.
@@ -49,8 +48,7 @@ fn table(rt: &HostRuntime, name: &str, counts: Counts) -> Counts
 {
     put(rt, name.as_bytes());
     let mut buffer = [0u8; TABLE_ROOM];
-    let input = read_table(rt, name, &mut buffer);
-    let Input::Length(length) = input else {
+    let Ok(length) = read_table(rt, name, &mut buffer) else {
         put(rt, b" cannot be read\n");
         return counts;
     };
@@ -62,19 +60,10 @@ fn table(rt: &HostRuntime, name: &str, counts: Counts) -> Counts
     rows(rt, &buffer[..length], counts)
 }
 
-fn read_table(rt: &HostRuntime, name: &str, buffer: &mut [u8]) -> Input
+fn read_table(rt: &HostRuntime, name: &str, buffer: &mut [u8]) -> io::Result<usize>
     ensures { Within result buffer.new }
 {
-    match fs::open(rt, name) {
-        Ok(file) => read_open(file, buffer),
-        Err(error) => Input::Failed(error),
-    }
-}
-
-fn read_open(file: fs::File, buffer: &mut [u8]) -> Input
-    ensures { Within result buffer.new }
-{
-    let mut file = file;
+    let mut file = fs::open(rt, name)?;
     report::read_input(&mut file, buffer)
 }
 
@@ -83,11 +72,8 @@ fn rows(rt: &HostRuntime, table: &[u8], counts: Counts) -> Counts
     ensures { rows_in result ≤ rows_in counts + length table.now }
 {
     let mut all = counts;
-    let mut rest = table;
-    while 0 < rest.len() {
-        all = with_row(rt, all, cells::part(rest, b'\n', 0));
-        let start = cells::after(rest, b'\n');
-        rest = &rest[start..];
+    for line in table.split_inclusive(|x| *x == b'\n') {
+        all = with_row(rt, all, cells::part(line, b'\n', 0));
     }
     all
 }
@@ -97,74 +83,57 @@ fn with_row(rt: &HostRuntime, counts: Counts, line: &[u8]) -> Counts
     requires { rows_in counts < most_rows }
     ensures { rows_in result ≤ rows_in counts + 1 }
 {
-    let kind = answers::kind_of(cells::part(line, b'\t', 0));
-    if let Kind::Skipped = kind {
+    let word = cells::part(line, b'\t', 0);
+    if answers::skips(word) {
         return counts;
     }
-    let found = verdict(
-        kind,
+    let inside = verdict(
+        word,
         cells::part(line, b'\t', 2),
         cells::part(line, b'\t', 3),
     );
     put(rt, cells::part(line, b'\t', 1));
-    print_verdict(rt, found);
-    counted(counts, found)
+    put(
+        rt,
+        match inside {
+            Some(true) => b" inside\n",
+            Some(false) => b" outside\n",
+            None => b" unreadable\n",
+        },
+    );
+    counted(counts, inside)
 }
 
-fn verdict<'a>(kind: Kind, inputs: &'a [u8], results: &'a [u8]) -> Verdict {
-    let Answer::Said(said) = answers::ask(kind, inputs) else {
-        return Verdict::Unreadable;
-    };
+// Whether a row's answer is one that it allows: nothing where its kind is not known, or it cannot be read.
+fn verdict(word: &[u8], inputs: &[u8], results: &[u8]) -> Option<bool>
+    ensures { kind_of word.now ≡ None → result ≡ None }
+{
+    let kind = answers::kind_of(word)?;
+    let said = answers::ask(kind, inputs)?;
     verdicts::judge(kind, results, said)
 }
 
-fn print_verdict(rt: &HostRuntime, verdict: Verdict) {
-    match verdict {
-        Verdict::Inside => {
-            put(rt, b" inside\n");
-        }
-        Verdict::Outside => {
-            put(rt, b" outside\n");
-        }
-        Verdict::Unreadable => {
-            put(rt, b" unreadable\n");
-        }
-    }
-}
-
-fn counted(counts: Counts, verdict: Verdict) -> Counts
+fn counted(counts: Counts, inside: Option<bool>) -> Counts
     requires { rows_in counts < most_rows }
     ensures { rows_in result ≤ rows_in counts + 1 }
 {
     let mut all = counts;
-    match verdict {
-        Verdict::Inside => {
-            all.inside += 1;
-        }
-        Verdict::Outside => {
-            all.outside += 1;
-        }
-        Verdict::Unreadable => {
-            all.unreadable += 1;
-        }
+    match inside {
+        Some(true) => all.inside += 1,
+        Some(false) => all.outside += 1,
+        None => all.unreadable += 1,
     }
     all
 }
 
 fn print_counts(rt: &HostRuntime, counts: Counts) {
-    put_number(rt, counts.inside);
-    put(rt, b" rows inside, ");
-    put_number(rt, counts.outside);
-    put(rt, b" outside, ");
-    put_number(rt, counts.unreadable);
-    put(rt, b" unreadable\n");
+    let inside = counts.inside;
+    let outside = counts.outside;
+    let unreadable = counts.unreadable;
+    let _ = println!(rt; "{inside} rows inside, {outside} outside, {unreadable} unreadable");
 }
 
 // A program that tests has nowhere to tell that a line was lost.
 fn put(rt: &HostRuntime, text: &[u8]) {
     let _ = rt.stdout().write_all(text);
-}
-
-fn put_number(rt: &HostRuntime, n: u64) {
-    let _ = rt.stdout().print(n);
 }

@@ -7,7 +7,7 @@ ghost use Rattle.refusals.specs.Apart.{parts_of, place_of, refusal_in};
 
 use bounds::Bounds;
 
-// A field, a record, an hour or an input, by its number, or none.
+// A field, a record, an hour or an input, by its number, or none. None is a case here and no Option is made of it: document 01, 'Language form for each place'.
 #[derive(Clone, Copy, PartialEq, Eq)]
 pub enum Place {
     None,
@@ -17,6 +17,7 @@ pub enum Place {
     Input(u8),
 }
 
+// By the papers' number, which is printed, explained and handed to C: an enum of the numbers would be turned back into them at each of these.
 #[derive(Clone, Copy, PartialEq, Eq)]
 pub struct Refusal {
     pub number: u8,
@@ -49,7 +50,8 @@ fn kind_number(place: Place) -> u8
     }
 }
 
-// What an answer states: the refusal's number, 0 for none, the kind and the number of its place, how many values there are, and the values.
+// What an answer states: the refusal's number, 0 for none, the kind and the number of its place, how many values there are, and the values. Plain numbers,
+// since the C interface takes them.
 #[derive(Clone, Copy, PartialEq, Eq)]
 pub struct Parts {
     pub number: u8,
@@ -61,72 +63,74 @@ pub struct Parts {
 }
 
 // Of an answer that gives a pair.
-pub fn of_pair(pair: Bounds) -> Parts
-    ensures { result ≡ parts_of (stated_values (pair.low ∷ pair.high ∷ [])) }
-{
-    Parts {
-        number: 0,
-        kind: 0,
-        place: 0,
-        count: 2,
-        first: pair.low,
-        second: pair.high,
+impl From<Bounds> for Parts {
+    ghost from_gives = { λ pair r. r ≡ parts_of (stated_values (pair.low ∷ pair.high ∷ [])) };
+
+    fn from(pair: Bounds) -> Parts {
+        Parts {
+            number: 0,
+            kind: 0,
+            place: 0,
+            count: 2,
+            first: pair.low,
+            second: pair.high,
+        }
     }
 }
 
 // Of an answer that gives one value.
-pub fn of_value(value: u32) -> Parts
-    ensures { result ≡ parts_of (stated_values (pos value ∷ [])) }
-{
-    Parts {
-        number: 0,
-        kind: 0,
-        place: 0,
-        count: 1,
-        first: numbers::wide(value),
-        second: 0,
+impl From<u32> for Parts {
+    ghost from_gives = { λ value r. r ≡ parts_of (stated_values (pos value ∷ [])) };
+
+    fn from(value: u32) -> Parts {
+        Parts {
+            number: 0,
+            kind: 0,
+            place: 0,
+            count: 1,
+            first: i64::from(value),
+            second: 0,
+        }
     }
 }
 
 // Of an answer that refuses.
-pub fn of_refusal(refusal: Refusal) -> Parts
-    ensures { result ≡ parts_of (stated_refusal refusal) }
-{
-    let place = refusal.place;
-    Parts {
-        number: refusal.number,
-        kind: kind_number(place),
-        place: place_number(place),
-        count: 0,
-        first: 0,
-        second: 0,
+impl From<Refusal> for Parts {
+    ghost from_gives = { λ refusal r. r ≡ parts_of (stated_refusal refusal) };
+
+    fn from(refusal: Refusal) -> Parts {
+        let place = refusal.place;
+        Parts {
+            number: refusal.number,
+            kind: kind_number(place),
+            place: place_number(place),
+            count: 0,
+            first: 0,
+            second: 0,
+        }
     }
 }
 
 // The refusal in the parts of an answer that refuses.
-pub fn refusal_in(parts: Parts) -> Refusal
-    ensures { result ≡ refusal_in parts }
-{
-    Refusal {
-        number: parts.number,
-        place: place_of(parts.kind, parts.place),
+impl From<Parts> for Refusal {
+    ghost from_gives = { λ parts r. r ≡ refusal_in parts };
+
+    fn from(parts: Parts) -> Refusal {
+        Refusal {
+            number: parts.number,
+            place: place_of(parts.kind, parts.place),
+        }
     }
 }
 
 fn place_of(kind: u8, number: u8) -> Place
     ensures { result ≡ place_of kind number }
 {
-    if kind == 1 {
-        return Place::Field(number);
+    match kind {
+        1 => Place::Field(number),
+        2 => Place::Record(number),
+        3 => Place::Hour(number),
+        4 => Place::Input(number),
+        _ => Place::None,
     }
-    if kind == 2 {
-        return Place::Record(number);
-    }
-    if kind == 3 {
-        return Place::Hour(number);
-    }
-    if kind == 4 {
-        return Place::Input(number);
-    }
-    Place::None
 }

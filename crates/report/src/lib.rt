@@ -2,7 +2,6 @@
 #![tactic(auto)]
 
 ghost use Rattle.std.specs.Prelude.{◌≤◌};
-ghost use Rattle.text.specs.Writing.{line_room};
 ghost use Rattle.lines.specs.Lines.{Says};
 ghost use Rattle.history_rules.specs.Answer.{history_of, RiseSaid};
 ghost use Rattle.report.specs.Reading.{Within, FromBytes};
@@ -13,71 +12,42 @@ mod reason;
 use history::RiseAnswer;
 pub use reason::fail;
 use std::env::FillError;
-use std::io::{Error, Print, Read};
+use std::io;
+use std::io::{Print, Read};
 use std::rt::Env;
 use text::Line;
 
-// How many bytes were read before the input ended or the buffer was full, or why a read failed.
-#[derive(Clone, Copy)]
-pub enum Input {
-    Length(usize),
-    Failed(Error),
-}
-
-// Fills the buffer from its start. A read that fails is told apart from the input's end.
-pub fn read_input<R: Read>(reader: &mut R, buffer: &mut [u8]) -> Input
+// A loop over `read`, since the library's `read_exact` fails where an input is shorter than the buffer, and `read_to_end` allocates.
+// Fills the buffer from its start: how many bytes were read before the input ended or the buffer was full, or why a read failed.
+pub fn read_input<R: Read>(reader: &mut R, buffer: &mut [u8]) -> io::Result<usize>
     ensures { Within result buffer.new }
 {
     let mut done: usize = 0;
     while done < buffer.len() {
-        match reader.read(&mut buffer[done..]) {
-            Err(error) => return Input::Failed(error),
-            Ok(more) => {
-                if more == 0 {
-                    break;
-                }
-                done += more;
-            }
+        let more = reader.read(&mut buffer[done..])?;
+        if more == 0 {
+            break;
         }
+        done += more;
     }
-    Input::Length(done)
-}
-
-// The answer for the bytes that were read, or why they could not be read.
-#[derive(Clone, Copy)]
-pub enum Outcome {
-    Answer(RiseAnswer),
-    Unread(Error),
-}
-
-// By which loop the chain of a sheet is walked. The answer is the same.
-#[derive(Clone, Copy)]
-pub enum Walk {
-    Plain,
-    ByReader,
+    Ok(done)
 }
 
 // In bytes. Longer than the longest sheet, so that a longer input is refused for its length and not cut.
 pub const SHEET_ROOM: usize = 1024;
 
-// The rise of the sheet that a reader gives.
-pub fn rise_from<R: Read>(reader: &mut R, walk: Walk) -> Outcome
+// What `rise` answers for the sheet that a reader gives, or why it could not be read.
+pub fn rise_from<R: Read, F: Fn(&[u8]) -> RiseAnswer>(
+    reader: &mut R,
+    rise: F,
+) -> io::Result<RiseAnswer>
+    requires callable { F.IsAlwaysCallable rise }
+    requires rises { (sheet : _) (answer : _) → F.post rise sheet answer → RiseSaid (history_of sheet.now) answer }
     ensures { FromBytes result }
 {
     let mut buffer = [0u8; SHEET_ROOM];
-    match read_input(reader, &mut buffer) {
-        Input::Length(length) => Outcome::Answer(walked(&buffer[..length], walk)),
-        Input::Failed(error) => Outcome::Unread(error),
-    }
-}
-
-fn walked(sheet: &[u8], walk: Walk) -> RiseAnswer
-    ensures { RiseSaid (history_of sheet.now) result }
-{
-    match walk {
-        Walk::Plain => history::rise(sheet),
-        Walk::ByReader => history::rise_by_reader(sheet),
-    }
+    let length = read_input(reader, &mut buffer)?;
+    Ok(rise(&buffer[..length]))
 }
 
 // `rise LOW HIGH` or `refused NUMBER PLACE`, and the line's end.
@@ -92,12 +62,8 @@ pub fn print_rise(rt: &HostRuntime, answer: RiseAnswer, lost: &[u8]) {
 }
 
 // Writes the line as it is, with no line end of its own.
-pub fn print(rt: &HostRuntime, line: Line, lost: &[u8])
-    requires { line.length ≤ line_room }
-{
-    let length = line.length;
-    let bytes = line.bytes;
-    put(rt, &bytes[..length], lost);
+pub fn print(rt: &HostRuntime, line: Line, lost: &[u8]) {
+    put(rt, line.as_slice(), lost);
 }
 
 // Writes to standard output. Where that fails, standard error is told what was lost, and the reason that the system gives.

@@ -1,7 +1,6 @@
 // Reads a sheet from standard input and prints its rise as one line. What is no answer goes to standard error.
 #![tactic(auto)]
 
-use report::{Outcome, Walk};
 use std::io::Print;
 
 fn main(rt: HostRuntime) {
@@ -11,12 +10,8 @@ fn main(rt: HostRuntime) {
             .write_all(b"usage: no words wanted: rise < SHEET\n");
         return;
     }
-    match report::rise_from(&mut rt.stdin(), Walk::Plain) {
-        Outcome::Answer(answer) => report::print_rise(
-            &rt,
-            answer,
-            b"rise: the answer cannot be written",
-        ),
-        Outcome::Unread(error) => report::fail(&rt, b"rise: standard input cannot be read", error),
+    match report::rise_from(&mut rt.stdin(), history::rise) {
+        Ok(answer) => report::print_rise(&rt, answer, b"rise: the answer cannot be written"),
+        Err(error) => report::fail(&rt, b"rise: standard input cannot be read", error),
     }
 }

@@ -1,7 +1,7 @@
-// Reads a sheet from standard input and prints its rise as `rise` does, with the chain walked by the reader. What is no answer goes to standard error.
+// Reads a sheet from standard input and prints its rise as `rise` does, with the chain walked by the reader. What is no answer goes to standard error. A program
+// of its own, since each of the two has a stdout that is compared.
 #![tactic(auto)]
 
-use report::{Outcome, Walk};
 use std::io::Print;
 
 fn main(rt: HostRuntime) {
@@ -11,16 +11,15 @@ fn main(rt: HostRuntime) {
             .write_all(b"usage: no words wanted: rise_by_reader < SHEET\n");
         return;
     }
-    match report::rise_from(&mut rt.stdin(), Walk::ByReader) {
-        Outcome::Answer(answer) => report::print_rise(
+    // By a closure: a function of a private module gets no proof where it is handed on by name.
+    match report::rise_from(&mut rt.stdin(), |sheet: &[u8]| {
+        history::rise_by_reader(sheet)
+    }) {
+        Ok(answer) => report::print_rise(
             &rt,
             answer,
             b"rise_by_reader: the answer cannot be written",
         ),
-        Outcome::Unread(error) => report::fail(
-            &rt,
-            b"rise_by_reader: standard input cannot be read",
-            error,
-        ),
+        Err(error) => report::fail(&rt, b"rise_by_reader: standard input cannot be read", error),
     }
 }

@@ -10,11 +10,9 @@ ghost use Rattle.rise_files.specs.Words.{most_words};
 use bounds::Bounds;
 use history::RiseAnswer;
 use refusals::Parts;
-use report::{Outcome, Walk};
 use std::fs;
 use std::io::{Error, ErrorKind, Print};
 use std::rt::Env;
-use text::Signed;
 
 const MOST_WORDS: usize = 4096;
 
@@ -26,7 +24,7 @@ struct Counts {
 }
 
 fn main(rt: HostRuntime) {
-    let words = word_count(&rt);
+    let words = report::word_count(&rt, MOST_WORDS);
     let mut counts = Counts {
         sheets: 0,
         alike: 0,
@@ -49,31 +47,17 @@ fn counted(rt: &HostRuntime, counts: Counts, k: usize) -> Counts
         print_against(rt, k, k + 2);
         return counts;
     }
-    let sheets = counts.sheets + 1;
-    if report_sheet(rt, k) {
-        return Counts {
-            sheets,
-            alike: counts.alike + 1,
-        };
-    }
     Counts {
-        sheets,
-        alike: counts.alike,
+        sheets: counts.sheets + 1,
+        alike: counts.alike + u64::from(report_sheet(rt, k)),
     }
 }
 
-// How many arguments are looked at, the program's own name among them.
-fn word_count(rt: &HostRuntime) -> usize
-    ensures { result ≤ most_words }
-{
-    report::word_count(rt, MOST_WORDS)
-}
-
-fn word_at(rt: &HostRuntime, k: usize) -> Signed {
-    let mut text = io::buffer();
-    match rt.arg(k, &mut text) {
-        Ok(length) => text::signed_of(&text[..length]),
-        Err(_) => text::signed_of(b""),
+fn word_at(rt: &HostRuntime, k: usize) -> Option<i64> {
+    let mut word = io::buffer();
+    match rt.arg(k, &mut word) {
+        Ok(length) => text::signed_of(&word[..length]),
+        Err(_) => None,
     }
 }
 
@@ -81,16 +65,13 @@ fn word_at(rt: &HostRuntime, k: usize) -> Signed {
 fn begins(rt: &HostRuntime, k: usize) -> bool
     requires { 0 < k }
 {
-    if let Signed::Integer(_) = word_at(rt, k) {
-        return false;
-    }
-    !is_against(rt, k) && !is_against(rt, k - 1)
+    word_at(rt, k).is_none() && !is_against(rt, k) && !is_against(rt, k - 1)
 }
 
 fn is_against(rt: &HostRuntime, k: usize) -> bool {
-    let mut text = io::buffer();
-    match rt.arg(k, &mut text) {
-        Ok(length) => text::same(&text[..length], b"against"),
+    let mut word = io::buffer();
+    match rt.arg(k, &mut word) {
+        Ok(length) => &word[..length] == b"against".as_slice(),
         Err(_) => false,
     }
 }
@@ -102,46 +83,44 @@ fn print_word(rt: &HostRuntime, k: usize) {
     }
 }
 
-// The answer for the sheet that argument k names.
-fn rise_of(rt: &HostRuntime, k: usize, walk: Walk) -> Outcome {
+fn plain_rise(rt: &HostRuntime, k: usize) -> std::io::Result<RiseAnswer> {
+    let mut sheet = sheet_named(rt, k)?;
+    report::rise_from(&mut sheet, history::rise)
+}
+
+// By a closure: a function of a private module gets no proof where it is handed on by name.
+fn rise_by_reader(rt: &HostRuntime, k: usize) -> std::io::Result<RiseAnswer> {
+    let mut sheet = sheet_named(rt, k)?;
+    report::rise_from(&mut sheet, |sheet: &[u8]| {
+        history::rise_by_reader(sheet)
+    })
+}
+
+// The file of the sheet that argument k names.
+fn sheet_named(rt: &HostRuntime, k: usize) -> std::io::Result<fs::File> {
     let mut path = io::buffer();
-    match rt.arg(k, &mut path) {
-        Ok(length) => rise_named(rt, &path[..length], walk),
-        Err(_) => unnamed(),
+    let Ok(length) = rt.arg(k, &mut path) else {
+        return Err(Error::from(ErrorKind::InvalidInput));
+    };
+    match std::str::from_utf8(&path[..length]) {
+        Ok(name) => fs::open(rt, name),
+        Err(_) => Err(Error::from(ErrorKind::InvalidInput)),
     }
 }
 
-fn rise_named(rt: &HostRuntime, path: &[u8], walk: Walk) -> Outcome {
-    match std::str::from_utf8(path) {
-        Ok(name) => match fs::open(rt, name) {
-            Ok(file) => rise_open(file, walk),
-            Err(error) => Outcome::Unread(error),
-        },
-        Err(_) => unnamed(),
-    }
-}
-
-fn rise_open(file: fs::File, walk: Walk) -> Outcome {
-    let mut file = file;
-    report::rise_from(&mut file, walk)
-}
-
-fn unnamed() -> Outcome {
-    Outcome::Unread(Error::from(ErrorKind::InvalidInput))
-}
-
-// The line of the sheet that argument k names; whether the two walks answer alike.
+// The line of the sheet that argument k names; whether the two walks answer alike. That k is below `most_words` is asked here and in the functions that count on
+// from it: a struct for it would hold the one number.
 fn report_sheet(rt: &HostRuntime, k: usize) -> bool
     requires { k < most_words }
 {
     print_word(rt, k);
     put(rt, b": ");
-    let Outcome::Answer(plain) = rise_of(rt, k, Walk::Plain) else {
+    let Ok(plain) = plain_rise(rt, k) else {
         put(rt, b"cannot be read\n");
         return false;
     };
     print_row(rt, plain, k);
-    let Outcome::Answer(other) = rise_of(rt, k, Walk::ByReader) else {
+    let Ok(other) = rise_by_reader(rt, k) else {
         put(rt, b"by the reader: cannot be read\n");
         return false;
     };
@@ -156,44 +135,24 @@ fn report_sheet(rt: &HostRuntime, k: usize) -> bool
 fn print_row(rt: &HostRuntime, answer: RiseAnswer, k: usize)
     requires { k < most_words }
 {
-    let Signed::Integer(low_min) = word_at(rt, k + 1) else {
-        report::print_rise(rt, answer, b"rise_files: a line cannot be written");
-        return;
-    };
-    let RiseAnswer::Rise(pair) = answer else {
-        report::print_rise(rt, answer, b"rise_files: a line cannot be written");
-        return;
-    };
-    print_inside(rt, pair, low_min, k);
+    match (word_at(rt, k + 1), answer) {
+        (Some(low_min), RiseAnswer::Rise(pair)) => print_inside(rt, pair, low_min, k),
+        _ => report::print_rise(rt, answer, b"rise_files: a line cannot be written"),
+    }
 }
 
 fn print_inside(rt: &HostRuntime, pair: Bounds, low_min: i64, k: usize)
     requires { k < most_words }
 {
     if low_min <= pair.low
-        && at_most(rt, pair.low, k + 2)
-        && at_least(rt, pair.high, k + 3)
-        && at_most(rt, pair.high, k + 4)
+        && word_at(rt, k + 2).is_some_and(|low_max| pair.low <= low_max)
+        && word_at(rt, k + 3).is_some_and(|high_min| high_min <= pair.high)
+        && word_at(rt, k + 4).is_some_and(|high_max| pair.high <= high_max)
     {
         put(rt, b"inside\n");
     } else {
         put(rt, b"outside\n");
     }
-}
-
-// Whether argument k is a number, and n is not above it.
-fn at_most(rt: &HostRuntime, n: i64, k: usize) -> bool {
-    let Signed::Integer(most) = word_at(rt, k) else {
-        return false;
-    };
-    n <= most
-}
-
-fn at_least(rt: &HostRuntime, n: i64, k: usize) -> bool {
-    let Signed::Integer(least) = word_at(rt, k) else {
-        return false;
-    };
-    least <= n
 }
 
 // The plain answer for the sheet of argument k, held to the reader's for that of argument j.
@@ -202,11 +161,7 @@ fn print_against(rt: &HostRuntime, k: usize, j: usize) {
     put(rt, b" against ");
     print_word(rt, j);
     put(rt, b": ");
-    let Outcome::Answer(plain) = rise_of(rt, k, Walk::Plain) else {
-        put(rt, b"cannot be read\n");
-        return;
-    };
-    let Outcome::Answer(other) = rise_of(rt, j, Walk::ByReader) else {
+    let (Ok(plain), Ok(other)) = (plain_rise(rt, k), rise_by_reader(rt, j)) else {
         put(rt, b"cannot be read\n");
         return;
     };
@@ -222,37 +177,17 @@ fn same(a: Parts, b: Parts) -> bool
     ensures alike { result ≡ true → a ≡ b }
     ensures differ { result ≡ false → a ≡ b → ⊥ }
 {
-    if a.number != b.number {
-        return false;
-    }
-    if a.kind != b.kind {
-        return false;
-    }
-    if a.place != b.place {
-        return false;
-    }
-    if a.count != b.count {
-        return false;
-    }
-    if a.first != b.first {
-        return false;
-    }
-    a.second == b.second
+    a == b
 }
 
+// A program that tests has nowhere to tell that a line was lost, here and in `put`.
 fn print_counts(rt: &HostRuntime, counts: Counts) {
-    put(rt, b"by the reader: ");
-    put_number(rt, counts.alike);
-    put(rt, b" of ");
-    put_number(rt, counts.sheets);
-    put(rt, b" answers alike\n");
+    let _ = println!(rt;
+        "by the reader: {} of {} answers alike",
+        counts.alike, counts.sheets
+    );
 }
 
-// A program that tests has nowhere to tell that a line was lost.
 fn put(rt: &HostRuntime, text: &[u8]) {
     let _ = rt.stdout().write_all(text);
-}
-
-fn put_number(rt: &HostRuntime, n: u64) {
-    let _ = rt.stdout().print(n);
 }

@@ -1,17 +1,12 @@
--- Products of bounded numbers and of bounded pairs stay within the machine's range.
+-- Products of bounded pairs stay within the machine's range.
 use Prim.Native.Nat.{ℕ, ◌*◌, ◌≤◌, ◌<◌}
-use native.Mathlib.Nat.{lt_of_le_of_lt, mul-le-mul}
+use native.Mathlib.Nat.{mul-le-mul}
 use native.Mathlib.Omega.{arith}
 use lib.Dec.{T, ltb, ltb→lt}
-use mir.Val.{Fits}
-use mir.Syntax.{w64}
 use Rattle.bounds.specs.Pair.{Pair, as_bounds}
 use Rattle.bounds.specs.Promises.{largest, ScaledRoom, TimesRoom}
 use Rattle.bounds.proofs.Pairs.{scaled_room, times_room}
 use Rattle.model.specs.Width.{Under}
-
-pub product_fits : {x y : ℕ} (m n : ℕ) → x ≤ m → y ≤ n → T (ltb (m * n) 18446744073709551616) → Fits w64 (x * y)
-product_fits {x} {y} m n h j t = record { fits = lt_of_le_of_lt (mul-le-mul h j) (ltb→lt (m * n) 18446744073709551616 t) }
 
 pub scaled_room_under : (m n : ℕ) {p q : Pair} {s : ℕ} → 0 < s → Under m p → Under n q → T (ltb (m * n) largest) → ScaledRoom (as_bounds p) (as_bounds q) s
 scaled_room_under m n {p} {q} z h j t =

@@ -10,7 +10,7 @@ ghost use Rattle.series.specs.Asked.{SliceFractions, PartOfOne, Exponent, UpTo};
 
 use bounds::Bounds;
 
-// 1, in units of 2^-30; and the same as an end of a pair.
+// 1, in units of 2^-30; and the same as an end of a pair, by `as`, since a constant can call no `try_from`.
 pub const ONE: u64 = 1 << 30;
 
 const ONE_END: i64 = ONE as i64;
@@ -46,9 +46,7 @@ pub fn series(theta: u64, tau: u64) -> Bounds
     let mut power = tau;
     let mut term = theta + tau;
     let mut sum = ONE + term / 2;
-    let mut k = 1;
-    while k < SERIES_ORDER {
-        k += 1;
+    for k in 2..=SERIES_ORDER {
         power = power * tau / ONE / k;
         term = theta * term / ONE + power;
         sum += term / (k + 1);
@@ -64,9 +62,7 @@ pub fn exp_fraction(x: u64) -> Bounds
 {
     let mut term = x;
     let mut sum = ONE + x;
-    let mut k = 1;
-    while k < EXP_ORDER {
-        k += 1;
+    for k in 2..=EXP_ORDER {
         term = term * x / ONE / k;
         sum += term;
     }
@@ -80,10 +76,8 @@ fn decayed(start: Bounds, m: u64) -> Bounds
     ensures { result ≡ as_bounds (decayed m (as_pair start)) }
 {
     let mut pair = start;
-    let mut left = m;
-    while left > 0 {
+    for _ in 0..m {
         pair = pair.scaled_mul(INVERSE_E, ONE);
-        left -= 1;
     }
     pair
 }

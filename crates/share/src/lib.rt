@@ -23,7 +23,8 @@ pub fn share(cable: Cable, minutes: u32) -> ShareAnswer
     share_given(sheet::given_alone(cable), minutes)
 }
 
-// The share after `minutes` of the cable of a sheet, with its neighbours. The sheet is only read.
+// The share after `minutes` of the cable of a sheet, with its neighbours. The sheet is only read. Two calls over one body, as README and the C interface name
+// them.
 pub fn share_in_sheet(sheet: &[u8], minutes: u32) -> ShareAnswer
     ensures { ShareSaid (given_sheet sheet.now) minutes result }
 {
@@ -53,12 +54,12 @@ pub fn share_of(ground: Ground, minutes: u32) -> ShareAnswer
     ShareAnswer::Pair(pair::pair_of(ground, minutes))
 }
 
-// What an answer states.
+// What an answer states. No From, which would have to stand beside the answer's type, in a crate that has definitions alone.
 pub fn parts(answer: ShareAnswer) -> Parts
     ensures { result ≡ parts_of (stated_share answer) }
 {
     match answer {
-        ShareAnswer::Pair(pair) => refusals::of_pair(pair),
-        ShareAnswer::Refused(refusal) => refusals::of_refusal(refusal),
+        ShareAnswer::Pair(pair) => Parts::from(pair),
+        ShareAnswer::Refused(refusal) => Parts::from(refusal),
     }
 }

@@ -41,7 +41,8 @@ pub struct Ground<'a> {
     pub ghost laid: { Laid sheet.now trench } by { laid_prop sheet.now trench },
 }
 
-// Which chain a walk is along.
+// Which chain a walk is along. The definitions and the laws of either chain are said once over it; a trait with the check, the measure and its law as ghost
+// members, and two impls, would be longer than the one match.
 #[derive(Clone, Copy)]
 pub enum Links {
     Load,

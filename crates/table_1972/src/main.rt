@@ -7,12 +7,11 @@
 ghost use Rattle.std.specs.Prelude.{◌≡◌, ◌≤◌};
 ghost use Rattle.distance.specs.Promised.{Millionths};
 ghost use Rattle.table_1972.specs.Agreement.{surface_cable, table_cable, share_after, InMillionths};
-ghost use Rattle.table_1972.specs.Agreement.{ends_of, near, agrees_at, one_if, agreeing_lines, agreeing_columns};
+ghost use Rattle.table_1972.specs.Agreement.{ends_of, near, agrees_at, agreeing_lines, agreeing_columns};
 
 use bounds::Bounds;
 use cable::Cable;
 use share::ShareAnswer;
-use std::io::Print;
 
 // A pair in millionths, neither end below 0.
 #[derive(Clone, Copy)]
@@ -127,11 +126,12 @@ const TABLE: [[u16; LINES]; DIAMETERS] = [
 fn cable_of(column: u16) -> Cable
     ensures { result ≡ table_cable column }
 {
-    let wide = column as u32;
+    let wide = u32::from(column);
     if column < 25 {
-        return surface_cable(300 + 50 * wide, 1000, 500);
+        surface_cable(300 + 50 * wide, 1000, 500)
+    } else {
+        surface_cable(150 + 25 * wide, 500, 125)
     }
-    surface_cable(150 + 25 * wide, 500, 125)
 }
 
 fn surface_cable(diameter: u32, depth: u32, diffusivity: u32) -> Cable
@@ -153,35 +153,31 @@ fn surface_cable(diameter: u32, depth: u32, diffusivity: u32) -> Cable
 fn share_after(cable: Cable, hours: u32) -> ShareAnswer
     ensures { (result ≡ share_after cable hours) × (InMillionths result) }
 {
-    if hours == 0 {
-        return ShareAnswer::Pair(Bounds { low: 0, high: 0 });
+    match hours {
+        0 => ShareAnswer::Pair(Bounds::point(0)),
+        1..=6 => share::share(cable, 60 * hours),
+        _ => ShareAnswer::Pair(Bounds::point(1000000)),
     }
-    if 6 < hours {
-        return ShareAnswer::Pair(Bounds {
-            low: 1000000,
-            high: 1000000,
-        });
-    }
-    share::share(cable, 60 * hours)
 }
 
 fn ends_of(pair: Bounds) -> Ends
     requires { Millionths pair }
     ensures { result ≡ ends_of pair }
 {
-    let low = bounds::natural(pair.low) as u32;
-    let high = bounds::natural(pair.high) as u32;
-    Ends { low, high }
+    Ends {
+        low: pair.low as u32,
+        high: pair.high as u32,
+    }
 }
 
 // Whether a value lies at most 1 thousandth outside the pair of `later` less `earlier`. The sides are moved so that nothing is subtracted.
 fn near(earlier: Ends, later: Ends, thousandths: u16) -> bool
     ensures { result ≡ near earlier later thousandths }
 {
-    let value = 1000 * (thousandths as u64);
-    let least = earlier.low as u64 + value;
-    let most = earlier.high as u64 + value;
-    later.low as u64 <= most + 1000 && least <= later.high as u64 + 1000
+    let value = 1000 * u64::from(thousandths);
+    let least = u64::from(earlier.low) + value;
+    let most = u64::from(earlier.high) + value;
+    u64::from(later.low) <= most + 1000 && least <= u64::from(later.high) + 1000
 }
 
 // Whether the value of a line agrees: Φ0 to Φ5 are what the share gains in an hour, and 1 − β(6) what it lacks after 6.
@@ -189,7 +185,7 @@ fn agrees(column: u16, line: u16, thousandths: u16) -> bool
     ensures { result ≡ agrees_at column line thousandths }
 {
     let cable = cable_of(column);
-    let hours = line as u32;
+    let hours = u32::from(line);
     let earlier = share_after(cable, hours);
     let later = share_after(cable, hours + 1);
     let ShareAnswer::Pair(before) = earlier else {
@@ -201,19 +197,13 @@ fn agrees(column: u16, line: u16, thousandths: u16) -> bool
     near(ends_of(before), ends_of(after), thousandths)
 }
 
-fn one_if(counts: bool) -> u64
-    ensures { (result ≡ one_if counts) × (result ≤ 1) }
-{
-    if counts { 1 } else { 0 }
-}
-
 // How many values of a column agree.
 fn agreeing_in(column: u16, printed: [u16; LINES]) -> u64
     ensures { (result ≡ agreeing_lines column printed 7) × (result ≤ 7) }
 {
-    let mut count: u64 = 0;
-    for line in 0..LINES {
-        count += one_if(agrees(column, line as u16, printed[line]));
+    let mut count = 0;
+    for (line, thousandths) in printed.iter().enumerate() {
+        count += u64::from(agrees(column, line as u16, *thousandths));
     }
     count
 }
@@ -222,40 +212,32 @@ fn agreeing_in(column: u16, printed: [u16; LINES]) -> u64
 fn agreeing(table: [[u16; LINES]; DIAMETERS]) -> u64
     ensures { (result ≡ agreeing_columns table 45) × (result ≤ 315) }
 {
-    let mut count: u64 = 0;
-    for column in 0..DIAMETERS {
-        count += agreeing_in(column as u16, table[column]);
+    let mut count = 0;
+    for (column, printed) in table.iter().enumerate() {
+        count += agreeing_in(column as u16, *printed);
     }
     count
 }
 
-fn print_false(rt: &HostRuntime, name: &[u8], column: u16, line: u16, thousandths: u16) {
-    put(rt, name);
-    if agrees(column, line, thousandths) {
-        put(rt, b" agrees\n");
-    } else {
-        put(rt, b" disagrees\n");
-    }
-}
+// What is false on purpose: a name, the column and the line where it stands, and the value in thousandths.
+const FALSE: [(&str, u16, u16, u16); 4] = [
+    ("l.1398, 0.095 m, 0.667 as printed", 13, 6, 667),
+    ("l.1392, 0.100 m, 0.100 as printed", 14, 0, 100),
+    ("l.1392, 0.030 m, 0.296 for 0.298", 0, 0, 296),
+    ("l.1392, 0.030 m, 0.300 for 0.298", 0, 0, 300),
+];
 
 // A program that tests has nowhere to tell that a line was lost.
-fn put(rt: &HostRuntime, text: &[u8]) {
-    let _ = rt.stdout().write_all(text);
-}
-
-fn put_number(rt: &HostRuntime, n: u64) {
-    let _ = rt.stdout().print(n);
-}
-
 fn main(rt: HostRuntime) {
     let count = agreeing(TABLE);
-    put(&rt, b"agree ");
-    put_number(&rt, count);
-    put(&rt, b"\ndisagree ");
-    put_number(&rt, VALUES - count);
-    put(&rt, b"\n");
-    print_false(&rt, b"l.1398, 0.095 m, 0.667 as printed", 13, 6, 667);
-    print_false(&rt, b"l.1392, 0.100 m, 0.100 as printed", 14, 0, 100);
-    print_false(&rt, b"l.1392, 0.030 m, 0.296 for 0.298", 0, 0, 296);
-    print_false(&rt, b"l.1392, 0.030 m, 0.300 for 0.298", 0, 0, 300);
+    let disagreeing = VALUES - count;
+    let _ = println!(&rt; "agree {count}\ndisagree {disagreeing}");
+    for (name, column, line, thousandths) in FALSE {
+        let said = if agrees(column, line, thousandths) {
+            "agrees"
+        } else {
+            "disagrees"
+        };
+        let _ = println!(&rt; "{name} {said}");
+    }
 }

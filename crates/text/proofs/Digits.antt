@@ -2,6 +2,7 @@
 use mathlib.Core.Path.{◌≡◌, refl, ap, sym, ◌∙◌}
 use mathlib.Core.Bool.{Bool, true, false, cond, and-eq-true_iff}
 use mathlib.Core.List.{List, [], ◌∷◌}
+use Rattle.std.specs.Prelude.{Some, None}
 use Prim.Native.Nat.{ℕ, ◌+◌, ◌≤◌, ◌<◌, min}
 use native.Mathlib.Numerals.{add-one}
 use native.Mathlib.Nat.{min-eq_left}
@@ -10,11 +11,7 @@ use borrow.Author.Tests.{leb-true}
 use lib.Dec.{leb}
 use lib.ListN.{length, drop, get_or, drop_of_length-le}
 use lib.Seq.{drop-cons}
-use Rattle.text.specs.Reading.{zero_digit, nine_digit, is_digit, with_digit, all_digits, digits_only, followed_by, value, spelled_by, number_of}
-use Rattle.text.specs.declared.Spelled.{Spelled}
-use Rattle.text.specs.declared.Spelled.TheVariants.{Value, NotDigits}
-use Rattle.text.specs.declared.Number.{Number}
-use Rattle.text.specs.declared.Number.TheVariants.{Whole, NotWhole}
+use Rattle.text.specs.Reading.{zero_digit, nine_digit, is_digit, with_digit, all_digits, digits_only, followed_by, value, number_of}
 
 -- so that a digit less '0' is not below 0
 pub digit_from : (b : ℕ) → is_digit b ≡ true → zero_digit ≤ b
@@ -44,8 +41,8 @@ some_digits : (s : List ℕ) → 0 < length s → digits_only s ≡ all_digits s
 some_digits [] h = absurd (omega arith)
 some_digits (b ∷ s) h = refl
 
-pub none_spelled : (s : List ℕ) (most : ℕ) → length s ≡ 0 → spelled_by s most ≡ NotDigits
-unfolding spelled_by
+pub none_spelled : (s : List ℕ) (most : ℕ) → length s ≡ 0 → number_of s most ≡ None
+unfolding number_of
 none_spelled [] most e = refl
 none_spelled (b ∷ s) most e = absurd (omega arith)
 
@@ -61,14 +58,14 @@ module _ {s : List ℕ} {most n i : ℕ} (p : Passed s most n i) where
         number = held most m (drop (i + 1) s) ∙ rw (add-one i) (sym (rw (drop-cons s i 0 h)) ∙ p.number);
       }
 
-  pub stops : i < length s → is_digit (get_or s i 0) ≡ false → spelled_by s most ≡ NotDigits
-  unfolding spelled_by all_digits
+  pub stops : i < length s → is_digit (get_or s i 0) ≡ false → number_of s most ≡ None
+  unfolding number_of all_digits
   stops h e =
       let no : digits_only s ≡ false = some_digits s (omega arith) ∙ sym p.digits ∙ rw (drop-cons s i 0 h, e) in
       rw no
 
-  pub ends : length s ≤ i → 0 < length s → spelled_by s most ≡ Value n
-  unfolding spelled_by all_digits followed_by
+  pub ends : length s ≤ i → 0 < length s → number_of s most ≡ Some n
+  unfolding number_of all_digits followed_by
   ends h z =
       let none = drop_of_length-le s h in
       let yes : digits_only s ≡ true = some_digits s z ∙ sym p.digits ∙ ap all_digits none in
@@ -77,23 +74,11 @@ module _ {s : List ℕ} {most n i : ℕ} (p : Passed s most n i) where
 
 -- ---- the number that is answered
 
-abbrev pub as_number : Spelled → Number
-as_number (Value n) = Whole n
-as_number NotDigits = NotWhole
-
-pub number_is_spelled : (s : List ℕ) (most : ℕ) → as_number (spelled_by s most) ≡ number_of s most
-unfolding spelled_by number_of
-number_is_spelled s most = go (digits_only s)
-  where
-    go : (yes : Bool) → as_number (cond yes (Value (min (value s) most)) NotDigits) ≡ cond yes (Whole (min (value s) most)) NotWhole
-    go true = refl
-    go false = refl
-
 -- whatever the text
-pub at_most : (s : List ℕ) (most : ℕ) {n : ℕ} → number_of s most ≡ Whole n → n ≤ most
+pub at_most : (s : List ℕ) (most : ℕ) {n : ℕ} → number_of s most ≡ Some n → n ≤ most
 unfolding number_of
 at_most s most {n} e = go (digits_only s) e
   where
-    go : (yes : Bool) → cond yes (Whole (min (value s) most)) NotWhole ≡ Whole n → n ≤ most
+    go : (yes : Bool) → cond yes (Some (min (value s) most)) None ≡ Some n → n ≤ most
     go true e = let k : min (value s) most ≡ n = cc in omega arith
     go false e = let z : ◌≡◌ {A = ℕ} 0 1 = cc in absurd (omega arith)

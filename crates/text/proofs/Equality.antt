@@ -1,11 +1,12 @@
 -- `same_bytes` is true exactly where the two lists are equal.
 use mathlib.Core.Path.{◌≡◌, refl, ap, sym, ◌∙◌}
-use mathlib.Core.Bool.{Bool, true, false, and-eq-true_iff}
+use mathlib.Core.Bool.{true, ◌&&◌, and-eq-true_iff}
 use mathlib.Core.List.{List, [], ◌∷◌}
 use Prim.Native.Nat.{ℕ}
 use native.Mathlib.Omega.{arith}
 use borrow.Author.Tests.{eqb-true, eq-eqb}
 use lib.Dec.{eqb}
+use lib.Pointwise.{pointwise}
 use Rattle.text.specs.Reading.{same_bytes}
 
 pub same_to : (s t : List ℕ) → same_bytes s t ≡ true → s ≡ t
@@ -27,11 +28,10 @@ same_self (a ∷ s) = rw (eq-eqb a a refl) (same_self s)
 pub same_of : {s t : List ℕ} → s ≡ t → same_bytes s t ≡ true
 same_of {s} e = ap (same_bytes s) (sym e) ∙ same_self s
 
--- a Bool that is true exactly where the two lists are equal
-pub same_is : (s t : List ℕ) {r : Bool} → (r ≡ true → s ≡ t) → (s ≡ t → r ≡ true) → r ≡ same_bytes s t
-same_is s t {r} to of = go r (same_bytes s t) refl refl
-  where
-    go : (x y : Bool) → r ≡ x → same_bytes s t ≡ y → r ≡ same_bytes s t
-    go true y e f = e ∙ sym (same_of (to e))
-    go false true e f = of (same_to s t f) ∙ sym f
-    go false false e f = e ∙ sym f
+-- what the library's `==` tests
+pub same_test : (s t : List ℕ) → pointwise eqb s t ≡ same_bytes s t
+unfolding same_bytes
+same_test [] [] = refl
+same_test [] (b ∷ t) = refl
+same_test (a ∷ s) [] = refl
+same_test (a ∷ s) (b ∷ t) = ap (λ r. eqb a b && r) (same_test s t)

@@ -1,82 +1,80 @@
 -- Worked examples of numbers read and written. Each text is given above its bytes.
-use Rattle.std.specs.Prelude.{◌≡◌, refl, false, [], ◌∷◌, pos, negsuc}
+use Rattle.std.specs.Prelude.{◌≡◌, refl, false, [], ◌∷◌, pos, negsuc, Some, None}
 use Rattle.text.specs.Reading.{all_digits, followed_by, number_of, signed_of, same_bytes}
 use Rattle.text.specs.Writing.{leading, decimal_text, signed_text}
-use Rattle.text.specs.declared.Number.TheVariants.{Whole, NotWhole}
-use Rattle.text.specs.declared.Signed.TheVariants.{Integer, NotInteger}
 
 -- ---- whole numbers of 32 bits
 
 -- "402"
-reads_402 : number_of (52 ∷ 48 ∷ 50 ∷ []) 4294967295 ≡ Whole 402
+reads_402 : number_of (52 ∷ 48 ∷ 50 ∷ []) 4294967295 ≡ Some 402
 unfolding number_of all_digits followed_by
 reads_402 = refl
 
 -- "007"
-reads_leading_zeros : number_of (48 ∷ 48 ∷ 55 ∷ []) 4294967295 ≡ Whole 7
+reads_leading_zeros : number_of (48 ∷ 48 ∷ 55 ∷ []) 4294967295 ≡ Some 7
 unfolding number_of all_digits followed_by
 reads_leading_zeros = refl
 
 -- "4294967295"
-reads_the_most : number_of (52 ∷ 50 ∷ 57 ∷ 52 ∷ 57 ∷ 54 ∷ 55 ∷ 50 ∷ 57 ∷ 53 ∷ []) 4294967295 ≡ Whole 4294967295
+reads_the_most : number_of (52 ∷ 50 ∷ 57 ∷ 52 ∷ 57 ∷ 54 ∷ 55 ∷ 50 ∷ 57 ∷ 53 ∷ []) 4294967295 ≡ Some 4294967295
 unfolding number_of all_digits followed_by
 reads_the_most = refl
 
 -- "4294967296"
-reads_one_beyond : number_of (52 ∷ 50 ∷ 57 ∷ 52 ∷ 57 ∷ 54 ∷ 55 ∷ 50 ∷ 57 ∷ 54 ∷ []) 4294967295 ≡ Whole 4294967295
+reads_one_beyond : number_of (52 ∷ 50 ∷ 57 ∷ 52 ∷ 57 ∷ 54 ∷ 55 ∷ 50 ∷ 57 ∷ 54 ∷ []) 4294967295 ≡ Some 4294967295
 unfolding number_of all_digits followed_by
 reads_one_beyond = refl
 
 -- ""
-reads_nothing : number_of [] 4294967295 ≡ NotWhole
+reads_nothing : number_of [] 4294967295 ≡ None
 unfolding number_of
 reads_nothing = refl
 
 -- "4a"
-reads_a_letter : number_of (52 ∷ 97 ∷ []) 4294967295 ≡ NotWhole
+reads_a_letter : number_of (52 ∷ 97 ∷ []) 4294967295 ≡ None
 unfolding number_of all_digits
 reads_a_letter = refl
 
 -- "4:", the byte after '9'
-reads_a_colon : number_of (52 ∷ 58 ∷ []) 4294967295 ≡ NotWhole
+reads_a_colon : number_of (52 ∷ 58 ∷ []) 4294967295 ≡ None
 unfolding number_of all_digits
 reads_a_colon = refl
 
 -- "/4", the byte before '0'
-reads_a_slash : number_of (47 ∷ 52 ∷ []) 4294967295 ≡ NotWhole
+reads_a_slash : number_of (47 ∷ 52 ∷ []) 4294967295 ≡ None
 unfolding number_of all_digits
 reads_a_slash = refl
 
 -- "-3"
-reads_no_sign : number_of (45 ∷ 51 ∷ []) 4294967295 ≡ NotWhole
+reads_no_sign : number_of (45 ∷ 51 ∷ []) 4294967295 ≡ None
 unfolding number_of all_digits
 reads_no_sign = refl
 
 -- ---- signed numbers
 
 -- "-6400"
-reads_minus_6400 : signed_of (45 ∷ 54 ∷ 52 ∷ 48 ∷ 48 ∷ []) ≡ Integer (negsuc 6399)
+reads_minus_6400 : signed_of (45 ∷ 54 ∷ 52 ∷ 48 ∷ 48 ∷ []) ≡ Some (negsuc 6399)
 unfolding signed_of all_digits followed_by
 reads_minus_6400 = refl
 
 -- "6400"
-reads_6400 : signed_of (54 ∷ 52 ∷ 48 ∷ 48 ∷ []) ≡ Integer (pos 6400)
+reads_6400 : signed_of (54 ∷ 52 ∷ 48 ∷ 48 ∷ []) ≡ Some (pos 6400)
 unfolding signed_of all_digits followed_by
 reads_6400 = refl
 
 -- "-"
-reads_a_sign_alone : signed_of (45 ∷ []) ≡ NotInteger
+reads_a_sign_alone : signed_of (45 ∷ []) ≡ None
 unfolding signed_of all_digits
 reads_a_sign_alone = refl
 
 -- "999999999999999999", of 18 digits
 reads_18_digits :
-    signed_of (57 ∷ 57 ∷ 57 ∷ 57 ∷ 57 ∷ 57 ∷ 57 ∷ 57 ∷ 57 ∷ 57 ∷ 57 ∷ 57 ∷ 57 ∷ 57 ∷ 57 ∷ 57 ∷ 57 ∷ 57 ∷ []) ≡ Integer (pos 999999999999999999)
+    signed_of (57 ∷ 57 ∷ 57 ∷ 57 ∷ 57 ∷ 57 ∷ 57 ∷ 57 ∷ 57 ∷ 57 ∷ 57 ∷ 57 ∷ 57 ∷ 57 ∷ 57 ∷ 57 ∷ 57 ∷ 57 ∷ []) ≡ Some (pos 999999999999999999)
 unfolding signed_of all_digits followed_by
 reads_18_digits = refl
 
 -- "1000000000000000000", of 19 digits
-reads_19_digits : signed_of (49 ∷ 48 ∷ 48 ∷ 48 ∷ 48 ∷ 48 ∷ 48 ∷ 48 ∷ 48 ∷ 48 ∷ 48 ∷ 48 ∷ 48 ∷ 48 ∷ 48 ∷ 48 ∷ 48 ∷ 48 ∷ 48 ∷ []) ≡ NotInteger
+reads_19_digits : signed_of (49 ∷ 48 ∷ 48 ∷ 48 ∷ 48 ∷ 48 ∷ 48 ∷ 48 ∷ 48 ∷ 48 ∷ 48 ∷ 48 ∷ 48 ∷ 48 ∷ 48 ∷ 48 ∷ 48 ∷ 48 ∷ 48 ∷ []) ≡ None
 unfolding signed_of all_digits followed_by
 reads_19_digits = refl
 

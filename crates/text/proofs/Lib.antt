@@ -3,5 +3,4 @@ pub mod Signs
 pub mod Equality
 pub mod Decimal
 pub mod RoundTrip
-pub mod Lines
 mod Examples

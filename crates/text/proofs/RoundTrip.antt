@@ -2,6 +2,7 @@
 use mathlib.Core.Path.{◌≡◌, refl, ◌∙◌}
 use mathlib.Core.Bool.{true, false, and-eq-true_iff}
 use mathlib.Core.List.{List, [], ◌∷◌, ◌++◌}
+use Rattle.std.specs.Prelude.{Some}
 use Prim.Native.Nat.{ℕ, zero, suc, ◌/◌, ◌≤◌, ◌<◌}
 use native.Mathlib.Nat.{min-eq_left}
 use native.Mathlib.Omega.{arith}
@@ -10,8 +11,6 @@ use lib.IntN.{ℤ, pos, negsuc, nat_abs}
 use Rattle.text.specs.Reading.{zero_digit, nine_digit, minus_sign, is_digit, all_digits, digits_only, with_digit, followed_by, value, number_of}
 use Rattle.text.specs.Reading.{beyond_signed, has_minus, signed_of}
 use Rattle.text.specs.Writing.{last_digit, leading, decimal_text, signed_text}
-use Rattle.text.specs.declared.Number.TheVariants.{Whole}
-use Rattle.text.specs.declared.Signed.TheVariants.{Integer}
 use Rattle.text.proofs.Digits.{digit_from}
 
 -- the text is of digits, and they spell the number
@@ -61,7 +60,7 @@ decimal_digits n = not_empty (leading n (n / 10)) (last_digit n) ∙ (decimal_sp
 pub decimal_value : (n : ℕ) → value (decimal_text n) ≡ n
 decimal_value n = (decimal_spells n).number
 
-pub number_back : (n most : ℕ) → n ≤ most → number_of (decimal_text n) most ≡ Whole n
+pub number_back : (n most : ℕ) → n ≤ most → number_of (decimal_text n) most ≡ Some n
 unfolding number_of
 number_back n most h = rw (decimal_digits n, decimal_value n, min-eq_left h)
 
@@ -74,7 +73,7 @@ no_sign (b ∷ s) e =
     let from : zero_digit ≤ b = digit_from b ((and-eq-true_iff (is_digit b) (all_digits s)).0 e).0 in
     ne_eqb b minus_sign (λ h. omega arith)
 
-pub signed_back : (z : ℤ) → nat_abs z < beyond_signed → signed_of (signed_text z) ≡ Integer z
+pub signed_back : (z : ℤ) → nat_abs z < beyond_signed → signed_of (signed_text z) ≡ Some z
 unfolding signed_of
 signed_back (pos n) h =
     rw (no_sign (decimal_text n) (decimal_digits n), decimal_digits n, decimal_value n, lt-ltb n beyond_signed h)

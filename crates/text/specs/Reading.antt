@@ -1,12 +1,6 @@
 -- Numbers read from a text, a list of ASCII codes. A whole number is one digit or more and nothing else; leading zeros change nothing, and digits that
 -- spell more than the most that is asked for are read as the most.
-use Rattle.std.specs.Prelude.{Bool, true, false, cond, ◌&&◌, List, [], ◌∷◌, ℕ, ◌+◌, ◌-◌, ◌*◌, min, eqb, leb, ltb, ℤ, pos, neg_ℤ, get_or, drop}
-use Rattle.text.specs.declared.Number.{Number}
-use Rattle.text.specs.declared.Number.TheVariants.{Whole, NotWhole}
-use Rattle.text.specs.declared.Signed.{Signed}
-use Rattle.text.specs.declared.Signed.TheVariants.{Integer, NotInteger}
-use Rattle.text.specs.declared.Spelled.{Spelled}
-use Rattle.text.specs.declared.Spelled.TheVariants.{Value, NotDigits}
+use Rattle.std.specs.Prelude.{Bool, true, false, cond, ◌&&◌, List, [], ◌∷◌, ℕ, ◌+◌, ◌-◌, ◌*◌, min, eqb, leb, ltb, ℤ, pos, neg_ℤ, get_or, drop, Option, Some, None}
 
 -- '0', '9' and '-'
 abbrev pub zero_digit : ℕ
@@ -47,12 +41,8 @@ value s = followed_by 0 s
 -- ---- whole numbers
 
 -- What the digits spell, or the most where they spell more.
-unfoldable pub number_of : List ℕ → ℕ → Number
-number_of s most = cond (digits_only s) (Whole (min (value s) most)) NotWhole
-
--- The same for a wider type.
-unfoldable pub spelled_by : List ℕ → ℕ → Spelled
-spelled_by s most = cond (digits_only s) (Value (min (value s) most)) NotDigits
+unfoldable pub number_of : List ℕ → ℕ → Option ℕ
+number_of s most = cond (digits_only s) (Some (min (value s) most)) None
 
 -- ---- signed numbers
 
@@ -64,24 +54,24 @@ abbrev pub with_sign : Bool → ℕ → ℤ
 with_sign true n = neg_ℤ (pos n)
 with_sign false n = pos n
 
-abbrev pub signed_by : Bool → List ℕ → Signed
-signed_by minus s = cond (digits_only s && ltb (value s) beyond_signed) (Integer (with_sign minus (value s))) NotInteger
+abbrev pub signed_by : Bool → List ℕ → Option ℤ
+signed_by minus s = cond (digits_only s && ltb (value s) beyond_signed) (Some (with_sign minus (value s))) None
 
 abbrev pub has_minus : List ℕ → Bool
 has_minus s = eqb (get_or s 0 0) minus_sign
 
 -- The digits of a text, or those after its minus sign.
-unfoldable pub signed_of : List ℕ → Signed
+unfoldable pub signed_of : List ℕ → Option ℤ
 signed_of s = signed_by (has_minus s) (cond (has_minus s) (drop 1 s) s)
 
 -- The same of a number that is spelled already.
-abbrev pub as_integer : Bool → Spelled → Signed
-as_integer minus (Value n) = cond (ltb n beyond_signed) (Integer (with_sign minus n)) NotInteger
-as_integer minus NotDigits = NotInteger
+abbrev pub as_integer : Bool → Option ℕ → Option ℤ
+as_integer minus (Some n) = cond (ltb n beyond_signed) (Some (with_sign minus n)) None
+as_integer minus None = None
 
 -- ---- two texts
 
--- The same bytes, and as many of them.
+-- The same bytes, and as many of them: what `==` says of two slices (`same_test` in proofs/Equality.antt).
 unfoldable pub same_bytes : List ℕ → List ℕ → Bool
 same_bytes [] [] = true
 same_bytes [] (b ∷ t) = false

@@ -1,5 +1,5 @@
 -- Numbers written as a text, with the fewest digits, and the line that they are written into.
-use Rattle.std.specs.Prelude.{◌≡◌, List, [], ◌∷◌, ◌++◌, ℕ, zero, suc, ◌+◌, ◌/◌, ◌%◌, ◌≤◌, ℤ, pos, negsuc, length, take}
+use Rattle.std.specs.Prelude.{◌≡◌, List, [], ◌∷◌, ◌++◌, ℕ, zero, suc, ◌+◌, ◌/◌, ◌%◌, ◌≤◌, ℤ, pos, negsuc, length}
 use Rattle.text.specs.Reading.{zero_digit, minus_sign}
 use Rattle.text.specs.declared.Line.{Line}
 
@@ -30,11 +30,14 @@ abbrev pub line_room : ℕ
 line_room = 80
 
 abbrev pub written : Line → List ℕ
-written line = take line.length line.bytes
+written line = line.text.items
+
+abbrev pub line_length : Line → ℕ
+line_length line = length (written line)
 
 pub record Appended (before : Line) (added : List ℕ) (after : Line) : Type 0 where
   pub text : written after ≡ written before ++ added
-  pub longer : after.length ≡ before.length + length added
+  pub longer : line_length after ≡ line_length before + length added
 
 -- A number of 64 bits takes 20 bytes at most: 20 digits, or a sign and 19.
 abbrev pub number_room : ℕ
@@ -42,4 +45,4 @@ number_room = 20
 
 pub record AppendedNumber (before : Line) (added : List ℕ) (after : Line) : Type 0 where
   pub appended : Appended before added after
-  pub within : after.length ≤ before.length + number_room
+  pub within : line_length after ≤ line_length before + number_room

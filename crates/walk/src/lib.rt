@@ -27,7 +27,7 @@ fn step_to(ground: Ground, at: Reached, next: LoadRecord) -> Result<Reached, Ref
 {
     let answer = share::share_of(ground, next.minutes);
     let ShareAnswer::Pair(pair) = answer else {
-        return Err(refusals::refusal_in(share::parts(answer)));
+        return Err(Refusal::from(share::parts(answer)));
     };
     let last = at.last;
     let sum = at.sum;

@@ -1,9 +1,8 @@
 -- What is known of the numbers among the words. Which words were typed no contract can say.
-use Rattle.std.specs.Prelude.{◌≡◌, Bool, true, false, cond, not, List, ℕ, ◌+◌, ◌≤◌, eqb, get_or}
+use Rattle.std.specs.Prelude.{◌≡◌, Bool, true, false, cond, not, List, ℕ, ◌+◌, ◌≤◌, eqb, get_or, Result, Ok, Err, IfOk}
 use Rattle.cycle_rules.specs.Day.{day_hours}
 use Rattle.words.specs.declared.Fault.{Fault}
-use Rattle.words.specs.declared.Fault.TheVariants.{None, Count, NotWhole}
-use Rattle.words.specs.declared.Numbers.{Numbers}
+use Rattle.words.specs.declared.Fault.TheVariants.{Count, NotWhole}
 
 abbrev pub cable_fields : ℕ
 cable_fields = 8
@@ -12,16 +11,16 @@ cable_fields = 8
 abbrev pub numbers_room : ℕ
 numbers_room = cable_fields + day_hours
 
-abbrev pub miscounted : Fault → Bool
-miscounted None = false
-miscounted Count = true
-miscounted (NotWhole k) = false
+abbrev pub miscounted : Result (List ℕ) Fault → Bool
+miscounted (Ok values) = false
+miscounted (Err Count) = true
+miscounted (Err (NotWhole k)) = false
 
 -- A word that is no whole number is one of the wanted, counted from 1.
-abbrev pub Among : ℕ → Fault → Type 0
-Among wanted None = Unit {0}
-Among wanted Count = Unit {0}
-Among wanted (NotWhole k) = (1 ≤ k) × (k ≤ wanted)
+abbrev pub Among : ℕ → Result (List ℕ) Fault → Type 0
+Among wanted (Ok values) = Unit {0}
+Among wanted (Err Count) = Unit {0}
+Among wanted (Err (NotWhole k)) = (1 ≤ k) × (k ≤ wanted)
 
 abbrev pub ZeroFrom : ℕ → List ℕ → Type 0
 ZeroFrom start values = (k : ℕ) → start ≤ k → get_or values k 0 ≡ 0
@@ -36,7 +35,7 @@ after_file = 3
 abbrev pub first_number : Bool → ℕ
 first_number named = cond named after_file after_command
 
-pub record ReadSaid (words : ℕ) (named : Bool) (wanted : ℕ) (r : Numbers) : Type 0 where
-  pub count : miscounted r.fault ≡ not (eqb words (first_number named + wanted))
-  pub faulty : Among wanted r.fault
-  pub rest : ZeroFrom wanted r.values
+pub record ReadSaid (words : ℕ) (named : Bool) (wanted : ℕ) (r : Result (List ℕ) Fault) : Type 0 where
+  pub count : miscounted r ≡ not (eqb words (first_number named + wanted))
+  pub faulty : Among wanted r
+  pub rest : IfOk r (ZeroFrom wanted)

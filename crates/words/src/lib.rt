@@ -7,7 +7,6 @@ ghost use Rattle.words.specs.Words.{after_file, first_number, numbers_room, Read
 pub use commands::{Command, command_of};
 use cycle_rules::DAY_HOURS;
 use std::rt::Env;
-use text::Number;
 
 // The program's own name and the command stand before the first number, or before the name of a file.
 pub const AFTER_COMMAND: usize = 2;
@@ -15,7 +14,7 @@ pub const AFTER_COMMAND: usize = 2;
 pub const AFTER_FILE: usize = AFTER_COMMAND + 1;
 
 // The largest number that is asked for; digits that spell more stand for it.
-pub const MOST: u32 = 4294967295;
+pub const MOST: u32 = u32::MAX;
 
 pub const CABLE_FIELDS: usize = 8;
 
@@ -23,46 +22,32 @@ pub const CABLE_FIELDS: usize = 8;
 pub const ROOM: usize = CABLE_FIELDS + DAY_HOURS;
 
 // Why numbers are not all there: another count of words than wanted, or the first, counted from 1, that is no whole number.
-#[derive(Clone, Copy)]
+#[derive(Clone, Copy, PartialEq, Eq)]
 pub enum Fault {
-    None,
     Count,
     NotWhole(usize),
 }
 
-#[derive(Clone, Copy)]
-pub struct Numbers {
-    pub values: [u32; ROOM],
-    pub fault: Fault,
-}
-
-// The wanted numbers, from all the words after the command, or after the file that is named.
-pub fn read(rt: &HostRuntime, words: usize, named: bool, wanted: usize) -> Numbers
+// The wanted numbers, from all the words after the command, or after the file that is named; 0 stands behind them.
+pub fn read(
+    rt: &HostRuntime,
+    words: usize,
+    named: bool,
+    wanted: usize,
+) -> Result<[u32; ROOM], Fault>
     requires { wanted ≤ numbers_room }
     ensures { ReadSaid words named wanted result }
 {
     let first = first_number(named);
-    let mut values = [0u32; ROOM];
     if words != first + wanted {
-        return Numbers {
-            values,
-            fault: Fault::Count,
-        };
+        return Err(Fault::Count);
     }
+    let mut values = [0u32; ROOM];
+    // By index: a word that is no number ends the call, and after an `iter_mut` a proof knows no element.
     for k in 0..wanted {
-        let word = word_at(rt, first + k);
-        let Number::Whole(value) = word else {
-            return Numbers {
-                values,
-                fault: Fault::NotWhole(k + 1),
-            };
-        };
-        values[k] = value;
+        values[k] = word_at(rt, first + k).ok_or(Fault::NotWhole(k + 1))?;
     }
-    Numbers {
-        values,
-        fault: Fault::None,
-    }
+    Ok(values)
 }
 
 // Where the numbers begin.
@@ -73,10 +58,8 @@ fn first_number(named: bool) -> usize
 }
 
 // Word k as a whole number. With pages of 4 KiB the system hands over no word that does not fit here.
-fn word_at(rt: &HostRuntime, k: usize) -> Number {
+fn word_at(rt: &HostRuntime, k: usize) -> Option<u32> {
     let mut word = [0u8; 131072];
-    match rt.arg(k, &mut word) {
-        Ok(length) => text::number_of(&word[..length], MOST),
-        Err(_) => text::number_of(b"", MOST),
-    }
+    let length = rt.arg(k, &mut word).ok()?;
+    text::number_of(&word[..length], MOST)
 }

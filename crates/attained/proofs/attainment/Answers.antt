@@ -6,19 +6,11 @@ use Rattle.bounds.specs.Pair.{Pair, as_bounds, less_p}
 use Rattle.bounds.proofs.Pairs.{add_pair, divided_pair}
 use Rattle.model.specs.Scale.{attainment_one}
 use Rattle.model.specs.Share.{attainment_of, attainment}
-use Rattle.series.proofs.Products.{product_fits}
-use Rattle.attained.specs.Asked.{most_rate, most_seconds}
-use Rattle.attained.proofs.Parts.{weighted_room, weighted_is, yet_to_rise, yet_to_rise_room, yet_to_rise_part, risen_room}
+use Rattle.attained.proofs.Parts.{weighted_room, weighted_is, yet_to_rise, yet_to_rise_room, yet_to_rise_part}
 use Rattle.attained.proofs.attainment.Goals as goal
-
-pub overflow_mul-fast : goal.overflow_mul-fast
-overflow_mul-fast c = product_fits most_rate most_seconds (omega arith) (omega arith) tt
 
 pub times-fast_part-requires : goal.times-fast_part-requires
 times-fast_part-requires c = rw c.exp_neg.ensures (weighted_room _ _ (omega arith))
-
-pub overflow_mul-slow : goal.overflow_mul-slow
-overflow_mul-slow c = product_fits most_rate most_seconds (omega arith) (omega arith) tt
 
 pub times-slow_part-requires : goal.times-slow_part-requires
 times-slow_part-requires c = rw c.exp_neg-2.ensures (weighted_room _ _ (omega arith))
@@ -35,14 +27,6 @@ rest_of-requires c =
     rw (c.add.ensures.is, weighted_is _ _ c.exp_neg.ensures c.times-fast_part.ensures.is, weighted_is _ _ c.exp_neg-2.ensures c.times-slow_part.ensures.is)
     (add_pair _ _) in
     rw yet_is (yet_to_rise_part _ _ _ (omega arith))
-
-pub divided-requires : goal.divided-requires
-divided-requires c =
-    let yet : Pair = yet_to_rise (c.args.fast * c.args.seconds) (c.args.slow * c.args.seconds) c.args.w in
-    let yet_is : c.add.result ≡ as_bounds yet =
-    rw (c.add.ensures.is, weighted_is _ _ c.exp_neg.ensures c.times-fast_part.ensures.is, weighted_is _ _ c.exp_neg-2.ensures c.times-slow_part.ensures.is)
-    (add_pair _ _) in
-    rw (c.rest_of.ensures, yet_is) (risen_room _)
 
 pub returns : goal.returns
 unfolding attainment attainment_of

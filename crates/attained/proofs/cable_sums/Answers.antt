@@ -1,21 +1,13 @@
 -- What each callee ensures is put for its result. Assumes nothing.
 use mathlib.Core.Path.{◌≡◌, refl}
-use native.Mathlib.Omega.{arith}
 use Rattle.bounds.specs.Pair.{as_bounds}
 use Rattle.bounds.proofs.Pairs.{times_pair}
 use Rattle.model.specs.Share.{cable_logarithm}
-use Rattle.series.proofs.Products.{product_fits}
 use Rattle.attained.proofs.Sources.{cable_times_room, cable_heat_asked}
 use Rattle.attained.proofs.cable_sums.Goals as goal
 
 pub times-logarithm-requires : goal.times-logarithm-requires
 times-logarithm-requires c = rw c.logarithm.ensures (cable_times_room c.requires)
-
-pub overflow_mul-d-2 : goal.overflow_mul-d-2
-overflow_mul-d-2 c = product_fits 7500 1500 (omega arith) (omega arith) tt
-
-pub overflow_mul-l-3 : goal.overflow_mul-l-3
-overflow_mul-l-3 c = product_fits 40000000 5000 (omega arith) (omega arith) tt
 
 pub heat_of-heat-requires : goal.heat_of-heat-requires
 unfolding cable_logarithm

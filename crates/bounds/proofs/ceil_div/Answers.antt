@@ -16,12 +16,6 @@ answer n r d h e = rw (neg_seen n h) at e
 pub overflow_sub-n : goal.overflow_sub-n
 overflow_sub-n c = neg_fits c.args.n (omega arith)
 
-pub overflow_sub-result : goal.overflow_sub-result
-overflow_sub-result c =
-    let is : c.floor_div.result ≡ floor_z (neg_ℤ c.args.n) c.args.d = answer c.args.n c.floor_div.result c.args.d (omega arith) c.floor_div.ensures.is in
-    let room : nat_abs c.floor_div.result < 2 ^ 63 = omega (arith, ap nat_abs is, floor_size (neg_ℤ c.args.n) c.args.d, size_neg c.args.n) in
-    neg_fits c.floor_div.result room
-
 pub returns : goal.returns
 unfolding ceil_z
 returns c =

@@ -1,7 +1,7 @@
 -- The test is that of the rule with both sides moved, and its products stay below 2^64. Assumes nothing.
 use mathlib.Core.Path.{refl}
 use native.Mathlib.Omega.{arith}
-use Rattle.emergency_rules.proofs.Certifying.{certified_moved, Products, products}
+use Rattle.emergency_rules.proofs.Certifying.{certified_moved, products}
 use Rattle.certifying.proofs.certified.Goals as goal
 
 pub overflow_mul-preload : goal.overflow_mul-preload
@@ -10,53 +10,37 @@ overflow_mul-preload c =
 
 pub overflow_mul-load : goal.overflow_mul-load
 overflow_mul-load c =
-    let at_end : Products c.square-rated_squared.result c.square.result c.square-load.result c.args.r c.args.g =
-    products c.requires.0 c.requires.1 c.square-rated_squared.ensures c.square.ensures c.square-load.ensures in
-    omega (arith, at_end)
+    omega (arith, products c.requires.0 c.requires.1 c.square-rated_squared.ensures c.square.ensures c.square-load.ensures)
 
 pub overflow_mul-limit-2 : goal.overflow_mul-limit-2
 overflow_mul-limit-2 c =
-    let at_end : Products c.square-rated_squared.result c.square.result c.square-load.result c.args.r c.args.g =
-    products c.requires.0 c.requires.1 c.square-rated_squared.ensures c.square.ensures c.square-load.ensures in
-    omega (arith, at_end)
+    rw (c.from.ensures, c.from-2.ensures) (omega (arith, products c.requires.0 c.requires.1 c.square-rated_squared.ensures c.square.ensures c.square-load.ensures))
 
 pub overflow_mul-result : goal.overflow_mul-result
 overflow_mul-result c =
-    let at_end : Products c.square-rated_squared.result c.square.result c.square-load.result c.args.r c.args.g =
-    products c.requires.0 c.requires.1 c.square-rated_squared.ensures c.square.ensures c.square-load.ensures in
-    omega (arith, at_end)
+    omega (arith, products c.requires.0 c.requires.1 c.square-rated_squared.ensures c.square.ensures c.square-load.ensures)
 
 pub overflow_mul-result-2 : goal.overflow_mul-result-2
 overflow_mul-result-2 c =
-    let at_end : Products c.square-rated_squared.result c.square.result c.square-load.result c.args.r c.args.g =
-    products c.requires.0 c.requires.1 c.square-rated_squared.ensures c.square.ensures c.square-load.ensures in
-    omega (arith, at_end)
+    omega (arith, products c.requires.0 c.requires.1 c.square-rated_squared.ensures c.square.ensures c.square-load.ensures)
 
 pub overflow_add-result : goal.overflow_add-result
 overflow_add-result c =
-    let at_end : Products c.square-rated_squared.result c.square.result c.square-load.result c.args.r c.args.g =
-    products c.requires.0 c.requires.1 c.square-rated_squared.ensures c.square.ensures c.square-load.ensures in
-    omega (arith, at_end)
+    omega (arith, products c.requires.0 c.requires.1 c.square-rated_squared.ensures c.square.ensures c.square-load.ensures)
 
 pub overflow_mul-result-3 : goal.overflow_mul-result-3
 overflow_mul-result-3 c =
-    let at_end : Products c.square-rated_squared.result c.square.result c.square-load.result c.args.r c.args.g =
-    products c.requires.0 c.requires.1 c.square-rated_squared.ensures c.square.ensures c.square-load.ensures in
-    omega (arith, at_end)
+    rw (c.from.ensures, c.from-2.ensures) (omega (arith, products c.requires.0 c.requires.1 c.square-rated_squared.ensures c.square.ensures c.square-load.ensures))
 
 pub overflow_mul-result-4 : goal.overflow_mul-result-4
 overflow_mul-result-4 c =
-    let at_end : Products c.square-rated_squared.result c.square.result c.square-load.result c.args.r c.args.g =
-    products c.requires.0 c.requires.1 c.square-rated_squared.ensures c.square.ensures c.square-load.ensures in
-    omega (arith, at_end)
+    omega (arith, products c.requires.0 c.requires.1 c.square-rated_squared.ensures c.square.ensures c.square-load.ensures)
 
 pub overflow_add-result-2 : goal.overflow_add-result-2
 overflow_add-result-2 c =
-    let at_end : Products c.square-rated_squared.result c.square.result c.square-load.result c.args.r c.args.g =
-    products c.requires.0 c.requires.1 c.square-rated_squared.ensures c.square.ensures c.square-load.ensures in
-    omega (arith, at_end)
+    rw (c.from.ensures, c.from-2.ensures) (omega (arith, products c.requires.0 c.requires.1 c.square-rated_squared.ensures c.square.ensures c.square-load.ensures))
 
 pub returns : goal.returns
 returns c =
-    rw (c.square-rated_squared.ensures, c.square.ensures, c.square-load.ensures)
+    rw (c.square-rated_squared.ensures, c.square.ensures, c.square-load.ensures, c.from.ensures, c.from-2.ensures)
     (certified_moved c.args.rated c.args.h c.args.r c.args.g c.args.i)

@@ -18,7 +18,7 @@ use Rattle.granting.proofs.after_share.Goals as goal
 pub returns-in_default : goal.returns-in_default
 returns-in_default c =
     let told = c.in_default.is in
-    share_refused _ _ _ (told ∙ ap S.Refused (sym (c.refusal_in.ensures ∙ ap refusal_in c.parts.ensures ∙ refusal_handed_on told)))
+    share_refused _ _ _ (told ∙ ap S.Refused (sym (c.from.ensures ∙ ap refusal_in c.parts.ensures ∙ refusal_handed_on told)))
 
 pub returns-then-outside : goal.returns-then-outside
 returns-then-outside c = preload_refused _ _ _ c.in-Pair.is (sym c.outside.ensures ∙ c.if-outside.true)

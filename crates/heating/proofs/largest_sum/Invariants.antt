@@ -8,7 +8,7 @@ use Rattle.cycle_rules.specs.Asked.{most_sum, pairs_of}
 use Rattle.heating.proofs.largest_sum.Given as goal
 
 abbrev pub invariant-loop-hour : goal.invariant-loop-hour
-invariant-loop-hour l = (l.hour ≤ day_hours) × (l.largest ≡ heating_bounds (pairs_of l.shares) l.hours (latest_largest (heating_sum (pairs_of l.shares) l.hours) l.hour)) × (Sized most_sum l.largest)
+invariant-loop-hour l = (l.hour ≤ day_hours) × (l.largest ≡ heating_bounds (pairs_of l.shares) l.fn.hours (latest_largest (heating_sum (pairs_of l.shares) l.fn.hours) l.hour)) × (Sized most_sum l.largest)
 
 abbrev pub decreases-loop-hour : goal.decreases-loop-hour
 decreases-loop-hour l = day_hours - l.hour

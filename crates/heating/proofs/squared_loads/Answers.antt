@@ -1,32 +1,24 @@
--- The loop adds one hour's square at a time, as the definition does. Assumes nothing.
-use mathlib.Core.Path.{◌≡◌, refl, ap, ◌∙◌}
-use Prim.Native.Nat.{◌≤◌}
-use native.Mathlib.Omega.{arith}
+-- The sum over the day is the definition's, and no square is above 65,535². Assumes nothing.
+use mathlib.Core.Path.{◌≡◌, ◌∙◌}
+use Prim.Native.Nat.{ℕ, ◌^◌, ◌≤◌, ◌<◌}
 use borrow.Author.Rules.{rules}
-use Rattle.cycle_rules.specs.Day.{day_hours, squared_loads}
-use Rattle.cycle_rules.proofs.Day.{most_square, square_to, squares_more}
+use native.Mathlib.Omega.{arith}
+use mir.Syntax.{w16}
+use mir.Val.{Fits}
+use Rattle.std.specs.List.{sum_by}
+use Rattle.cycle_rules.specs.Day.{load}
+use Rattle.cycle_rules.proofs.Day.{squares_to}
+use Rattle.heating.proofs.Days.{square, squares_summed}
 use Rattle.heating.proofs.squared_loads.Goals as goal
 
-pub loop-k-init : goal.loop-k-init
-unfolding squared_loads
-loop-k-init c = (omega arith, omega arith, refl)
-
-pub square-sum-requires : goal.square-sum-requires
-square-sum-requires c = tt
-
-pub overflow_add-sum : goal.overflow_add-sum
-overflow_add-sum c =
-    let square_small : c.square-sum.result ≤ most_square = square_to c.square-sum.ensures (search rules) in
-    omega (arith, square_small)
-
-pub loop-k-preserved : goal.loop-k-preserved
-loop-k-preserved c =
-    let square_small : c.square-sum.result ≤ most_square = square_to c.square-sum.ensures (search rules) in
-    let v = c.loop-k in
-    (omega arith, omega (arith, square_small), squares_more c.args.hours v.k v.sum c.square-sum.result v.invariant.2 c.square-sum.ensures)
+pub sum-requires-clause-fits : goal.sum-requires-clause-fits
+sum-requires-clause-fits c =
+    let small : (h : ℕ) → h < 24 → load c.args.hours h ≤ 65535 = λ h p. let f : Fits w16 (load c.args.hours h) = search rules in omega (arith, f) in
+    let room : sum_by square c.args.hours < 2 ^ 64 = omega (arith, squares_summed c.args.hours {n = 24} (omega arith), squares_to c.args.hours 65535 24 small) in
+    search rules
 
 pub returns : goal.returns
 returns c =
-    let v = c.loop-k in
-    let e : v.k ≡ day_hours = omega arith in
-    (v.invariant.2 ∙ ap (squared_loads c.args.hours) e, omega arith)
+    let small : (h : ℕ) → h < 24 → load c.args.hours h ≤ 65535 = λ h p. let f : Fits w16 (load c.args.hours h) = search rules in omega (arith, f) in
+    let summed : c.sum.result ≡ sum_by square c.args.hours = search rules in
+    (summed ∙ squares_summed c.args.hours (omega arith), omega (arith, summed, squares_summed c.args.hours {n = 24} (omega arith), squares_to c.args.hours 65535 24 small))

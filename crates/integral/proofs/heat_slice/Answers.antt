@@ -1,7 +1,5 @@
 -- What each callee ensures is put for its result; the sizes are the model's. Assumes nothing.
-use native.Mathlib.Omega.{arith}
 use Rattle.bounds.proofs.Pairs.{scaled_pair}
-use Rattle.model.proofs.Slice.{theta_half}
 use Rattle.integral.proofs.Slices.{slice_fractions, height_room, area_room, heat_slice_is}
 use Rattle.integral.proofs.heat_slice.Goals as goal
 
@@ -10,12 +8,6 @@ series-requires c = slice_fractions c.requires.slice
 
 pub scaled_mul-height-requires : goal.scaled_mul-height-requires
 scaled_mul-height-requires c = rw (c.requires.decay_is, c.series.ensures) (height_room c.requires.slice)
-
-pub overflow_add-theta : goal.overflow_add-theta
-overflow_add-theta c = let h = theta_half c.requires.slice in omega arith
-
-pub from_naturals-requires : goal.from_naturals-requires
-from_naturals-requires c = let h = theta_half c.requires.slice in omega arith
 
 pub scaled_mul-requires : goal.scaled_mul-requires
 scaled_mul-requires c =

@@ -1,16 +1,9 @@
 -- What each callee ensures is put for its result; the sizes are the model's. Assumes nothing.
-use native.Mathlib.Omega.{arith}
 use Rattle.bounds.proofs.Pairs.{scaled_pair}
 use Rattle.model.specs.Scale.{one}
 use Rattle.model.specs.Logarithm.{logarithm_slice}
-use Rattle.integral.proofs.Slices.{octave_theta, octave_fractions, octave_room}
+use Rattle.integral.proofs.Slices.{octave_fractions, octave_room}
 use Rattle.integral.proofs.logarithm_slice.Goals as goal
-
-pub overflow_add-theta : goal.overflow_add-theta
-overflow_add-theta c = let h = octave_theta c.requires in omega arith
-
-pub from_naturals-requires : goal.from_naturals-requires
-from_naturals-requires c = let h = octave_theta c.requires in omega arith
 
 pub series-requires : goal.series-requires
 series-requires c = octave_fractions c.requires

@@ -1,11 +1,8 @@
--- The loop's invariant: for each row that is counted the rest has lost a byte. The measure is the length of the rest.
-use Prim.Native.Nat.{◌+◌, ◌≤◌}
-use lib.ListN.{length}
+-- The loop's invariant: for each row that is counted the rest has lost a byte.
+use Rattle.std.proofs.Common.{◌+◌, ◌≤◌, length}
+use Rattle.std.specs.Slice.Iter.{split_inclusive_rest}
 use Rattle.reference_rows.specs.Counting.{rows_in}
 use Rattle.reference_rows.proofs.rows.Given as goal
 
-abbrev pub invariant-loop-rest : goal.invariant-loop-rest
-invariant-loop-rest l = rows_in l.all + length l.rest ≤ rows_in l.initial.all + length l.table
-
-abbrev pub decreases-loop-rest : goal.decreases-loop-rest
-decreases-loop-rest l = length l.rest
+abbrev pub invariant-loop-line : goal.invariant-loop-line
+invariant-loop-line l = rows_in l.all + length (split_inclusive_rest l.line-iterator) ≤ rows_in l.initial.all + length l.table

@@ -1,9 +1,9 @@
--- What was read lies within the buffer, whose length stays. The measure is what is left of it.
-use Rattle.std.proofs.Common.{length, ◌-◌, ◌≤◌, ◌≡◌}
+-- What was read lies within the buffer. The measure is what is left of it.
+use Rattle.std.proofs.Common.{length, ◌-◌, ◌≤◌}
 use Rattle.report.proofs.read_input.Given as goal
 
 abbrev pub invariant-loop-done : goal.invariant-loop-done
-invariant-loop-done g l = (l.done ≤ length l.buffer) × (length l.buffer ≡ length l.initial.buffer)
+invariant-loop-done g l = l.done ≤ length l.initial.buffer
 
 abbrev pub decreases-loop-done : goal.decreases-loop-done
 decreases-loop-done g l = length l.initial.buffer - l.done

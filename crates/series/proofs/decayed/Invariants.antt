@@ -2,8 +2,5 @@
 use Rattle.series.proofs.Turns.{DecayTurn}
 use Rattle.series.proofs.decayed.Given as goal
 
-abbrev pub invariant-loop-left : goal.invariant-loop-left
-invariant-loop-left l = DecayTurn l.initial.pair l.initial.left l.pair l.left
-
-abbrev pub decreases-loop-left : goal.decreases-loop-left
-decreases-loop-left l = l.left
+abbrev pub invariant-loop : goal.invariant-loop
+invariant-loop l = DecayTurn l.initial.pair l.m l.pair l.counter

@@ -1,22 +1,13 @@
 -- Each branch is the model's; the remainder is below den, so that its part of den is at most 1. Assumes nothing.
 use mathlib.Core.Path.{ap}
-use native.Mathlib.Nat.{mod-lt, mod-le}
 use native.Mathlib.Omega.{arith}
 use Rattle.bounds.specs.Pair.{as_bounds}
-use Rattle.model.specs.Scale.{one}
-use Rattle.model.proofs.Exponential.{fraction_exp_at_most_one, remainder_at_most_one, exp_far, exp_near}
-use Rattle.series.proofs.Products.{product_fits}
+use Rattle.model.proofs.Exponential.{fraction_exp_at_most_one, exp_far, exp_near}
 use Rattle.series.proofs.UpTo.{pair_up_to}
 use Rattle.series.proofs.exp_neg.Goals as goal
 
 pub returns-then-whole-gt-FAR_FROM : goal.returns-then-whole-gt-FAR_FROM
 returns-then-whole-gt-FAR_FROM c = ap as_bounds (exp_far _ _ (omega arith))
-
-pub overflow_mul-num : goal.overflow_mul-num
-overflow_mul-num c = product_fits 8589934592 one (omega (arith, mod-lt c.args.num {m = c.args.den} (omega arith), mod-le c.args.num c.args.den)) (omega arith) tt
-
-pub exp_fraction-requires : goal.exp_fraction-requires
-exp_fraction-requires c = record { most = remainder_at_most_one _ _ (omega arith) }
 
 pub decayed-requires : goal.decayed-requires
 decayed-requires c = rw c.exp_fraction.ensures (pair_up_to _ (fraction_exp_at_most_one _))

@@ -1,11 +1,7 @@
 -- The loop is the series at each order; its pair is the sum and what may have been lost. Assumes nothing.
 use Prim.Native.Nat.{◌-◌}
-use Rattle.model.specs.Scale.{series_order}
 use Rattle.series.proofs.Turns.{SeriesTurn}
 use Rattle.series.proofs.series.Given as goal
 
 abbrev pub invariant-loop-k : goal.invariant-loop-k
-invariant-loop-k l = SeriesTurn l.theta l.tau l.power l.term l.sum l.k
-
-abbrev pub decreases-loop-k : goal.decreases-loop-k
-decreases-loop-k l = series_order - l.k
+invariant-loop-k l = SeriesTurn l.theta l.tau l.power l.term l.sum (l.k - 1)

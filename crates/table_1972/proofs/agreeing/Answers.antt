@@ -1,5 +1,5 @@
 -- The loop counts one column at a time, which adds at most its 7 values.
-use mathlib.Core.Path.{◌≡◌, refl, ap, ap₂, ◌∙◌}
+use mathlib.Core.Path.{◌≡◌, refl, ap₂}
 use mathlib.Core.List.{List, []}
 use Prim.Native.Nat.{ℕ, ◌+◌}
 use native.Mathlib.Numerals.{add-one}
@@ -17,16 +17,7 @@ pub loop-column-init : goal.loop-column-init
 unfolding agreeing_columns
 loop-column-init c = (omega arith, omega arith, refl)
 
-pub overflow_add-count : goal.overflow_add-count
-overflow_add-count c = omega (arith, c.agreeing_in-count.ensures.1)
-
 pub loop-column-preserved : goal.loop-column-preserved
 loop-column-preserved c =
     let v = c.loop-column in
     (omega arith, omega (arith, c.agreeing_in-count.ensures.1), one_more _ v.column v.invariant.2 c.agreeing_in-count.ensures.0)
-
-pub returns : goal.returns
-returns c =
-    let v = c.loop-column in
-    let e : v.column ≡ 45 = omega arith in
-    (v.invariant.2 ∙ ap (agreeing_columns c.args.table) e, omega arith)

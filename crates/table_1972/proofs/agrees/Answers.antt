@@ -2,6 +2,7 @@
 use mathlib.Core.Path.{◌≡◌, sym, ap, ap₂, ◌∙◌}
 use mathlib.Core.Bool.{false}
 use Prim.Native.Nat.{ℕ, ◌+◌}
+use native.Mathlib.Omega.{arith}
 use Rattle.bounds.specs.declared.Bounds.{Bounds}
 use Rattle.cable_rules.specs.declared.Cable.{Cable}
 use Rattle.refusals.specs.declared.Refusal.{Refusal}
@@ -16,11 +17,11 @@ in_millionths : {r : ShareAnswer} {b : Bounds} → InMillionths r → r ≡ Pair
 in_millionths m e = rw e at m
 
 -- both shares are those of the definition
-module _ (column line thousandths : ℕ) {cable : Cable} {earlier later : ShareAnswer} (ec : cable ≡ table_cable column)
-    (ee : earlier ≡ share_after cable line) (el : later ≡ share_after cable (line + 1)) where
+module _ (column line thousandths : ℕ) {hours : ℕ} {cable : Cable} {earlier later : ShareAnswer} (eh : hours ≡ line) (ec : cable ≡ table_cable column)
+    (ee : earlier ≡ share_after cable hours) (el : later ≡ share_after cable (hours + 1)) where
   both : between earlier later thousandths ≡ agrees_at column line thousandths
   unfolding agrees_at
-  both = rw (ee, el, ec, agrees_at)
+  both = rw (ee, el, ec, eh, agrees_at)
 
   earlier_refused : {f : Refusal} → earlier ≡ Refused f → false ≡ agrees_at column line thousandths
   earlier_refused e = ap (λ a. between a later thousandths) (sym e) ∙ both
@@ -34,12 +35,14 @@ module _ (column line thousandths : ℕ) {cable : Cable} {earlier later : ShareA
 
 pub returns-in_default : goal.returns-in_default
 returns-in_default c =
-    earlier_refused _ _ _ c.cable_of-cable.ensures c.share_after-earlier.ensures.0 c.share_after-later.ensures.0
+    let hours_is : c.from-hours.result ≡ c.args.line = omega arith in
+    earlier_refused _ _ _ hours_is c.cable_of-cable.ensures c.share_after-earlier.ensures.0 c.share_after-later.ensures.0
     c.in_default.is
 
 pub returns-in_default-later : goal.returns-in_default-later
 returns-in_default-later c =
-    later_refused _ _ _ c.cable_of-cable.ensures c.share_after-earlier.ensures.0 c.share_after-later.ensures.0
+    let hours_is : c.from-hours.result ≡ c.args.line = omega arith in
+    later_refused _ _ _ hours_is c.cable_of-cable.ensures c.share_after-earlier.ensures.0 c.share_after-later.ensures.0
     c.in-Pair.is c.in_default-later.is
 
 pub ends_of-requires : goal.ends_of-requires
@@ -50,7 +53,8 @@ ends_of-requires-2 c = in_millionths c.share_after-later.ensures.1 c.in-Pair-lat
 
 pub returns : goal.returns
 returns c =
+    let hours_is : c.from-hours.result ≡ c.args.line = omega arith in
     c.near.ensures
-    ∙ both_pairs _ _ _ c.cable_of-cable.ensures c.share_after-earlier.ensures.0 c.share_after-later.ensures.0
+    ∙ both_pairs _ _ _ hours_is c.cable_of-cable.ensures c.share_after-earlier.ensures.0 c.share_after-later.ensures.0
     c.in-Pair.is c.in-Pair-later.is
     c.ends_of.ensures c.ends_of-2.ensures

@@ -1,6 +1,7 @@
 -- The test is that of the definition.
 use mathlib.Core.Path.{◌≡◌, ◌∙◌}
 use Prim.Native.Nat.{ℕ, ◌+◌, ◌*◌, ◌≤◌, ◌<◌}
+use native.Mathlib.Omega.{arith}
 use borrow.Author.Tests.{lt-ltb, le-ltb}
 use Rattle.table_1972.specs.Agreement.{surface_cable, table_cable}
 use Rattle.table_1972.proofs.cable_of.Goals as goal
@@ -14,7 +15,11 @@ unfolding table_cable
 half_size column h = rw (le-ltb column 25 h, table_cable)
 
 pub returns-then-column-lt25 : goal.returns-then-column-lt25
-returns-then-column-lt25 c = c.surface_cable.ensures ∙ as_it_is _ c.if-column-lt25.true
+returns-then-column-lt25 c =
+    let wide_is : c.from-wide.result ≡ c.args.column = omega arith in
+    rw wide_is at c.surface_cable.ensures ∙ as_it_is _ c.if-column-lt25.true
 
-pub returns : goal.returns
-returns c = c.surface_cable-2.ensures ∙ half_size _ c.if-column-lt25.false
+pub returns-else-column-lt25 : goal.returns-else-column-lt25
+returns-else-column-lt25 c =
+    let wide_is : c.from-wide.result ≡ c.args.column = omega arith in
+    rw wide_is at c.surface_cable-else-column-lt25.ensures ∙ half_size _ c.if-column-lt25.false

@@ -2,6 +2,7 @@
 use mathlib.Core.Path.{◌≡◌, sym, subst, ◌∙◌}
 use mathlib.Core.Bool.{Bool, true, false, cond}
 use Prim.Native.Nat.{ℕ, ◌*◌, ◌≤◌, ◌<◌}
+use native.Mathlib.Omega.{arith}
 use borrow.Author.Rules.{rules}
 use borrow.Author.Tests.{eq-eqb, ne_eqb, lt-ltb, le-ltb}
 use lib.IntN.{pos}
@@ -39,14 +40,14 @@ module _ (cable : Cable) (hours : ℕ) where
     unfolding share_after
     asked h = rw (ne_eqb hours 0 n, le-ltb 6 hours h, share_after)
 
-pub returns-then-hours-eq0 : goal.returns-then-hours-eq0
-returns-then-hours-eq0 c = (nothing _ _ c.if-hours-eq0.true, search rules)
+pub returns-in-0 : goal.returns-in-0
+returns-in-0 c = rw c.point.ensures.is (nothing _ _ c.in-0.is, search rules)
 
-pub returns-then-hours-gt6 : goal.returns-then-hours-gt6
-returns-then-hours-gt6 c = (all _ _ c.if-hours-eq0.false c.if-hours-gt6.true, search rules)
-
-pub returns : goal.returns
-returns c = (
-  c.share.ensures.answer ∙ asked _ _ c.if-hours-eq0.false c.if-hours-gt6.false,
+pub returns-in-1-to-6 : goal.returns-in-1-to-6
+returns-in-1-to-6 c = (
+  c.share.ensures.answer ∙ asked _ _ (λ e. omega arith) (omega arith),
   subst InMillionths (sym c.share.ensures.answer) (answer_in_millionths (given_cable c.args.cable) _),
 )
+
+pub returns-in_default : goal.returns-in_default
+returns-in_default c = rw c.point-in_default.ensures.is (all _ _ (λ e. omega arith) (omega arith), search rules)

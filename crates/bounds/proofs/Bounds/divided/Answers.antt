@@ -13,8 +13,8 @@ use Rattle.bounds.proofs.Bounds.divided.Goals as goal
 pub returns : goal.returns
 unfolding divided_b
 returns c =
-    let l = c.floor_div-low in
-    let h = c.ceil_div-high in
+    let l = c.floor_div in
+    let h = c.ceil_div in
     divided c.requires.divisor
     (same_ends
     (result_seen l.result l.type_inv ∙ l.ensures.is ∙ ap (λ (z : ℤ). floor_z z c.args.d) (to_z-of_z {w = w64} (search rules)))

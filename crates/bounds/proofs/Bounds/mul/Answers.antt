@@ -3,6 +3,7 @@ use mathlib.Core.Path.{◌∙◌, ap₂}
 use native.Mathlib.Omega.{arith}
 use borrow.Author.Rules.{rules}
 use Rattle.numbers.specs.Integer.{lesser, greater}
+use Rattle.numbers.proofs.Integers.{min_lesser, max_greater}
 use Rattle.numbers.proofs.Machine.{result_seen, mul_fits, mul_seen}
 use Rattle.bounds.specs.Operations.{mul_b}
 use Rattle.bounds.proofs.Enclosure.{same_ends, product}
@@ -37,15 +38,15 @@ returns c =
     let lh = mul_seen c.args.self.low c.args.other.high (search rules) (search rules) (omega (arith, fit.lh)) in
     let hl = mul_seen c.args.self.high c.args.other.low (search rules) (search rules) (omega (arith, fit.hl)) in
     let hh = mul_seen c.args.self.high c.args.other.high (search rules) (search rules) (omega (arith, fit.hh)) in
-    let least-low = c.least in
-    let least-high = c.least-2 in
-    let most-low = c.most in
-    let most-high = c.most-2 in
+    let min_lh = c.min in
+    let min_hl = c.min-2 in
+    let max_lh = c.max in
+    let max_hl = c.max-2 in
     product
     (same_ends
-    (result_seen c.least-low.result c.least-low.type_inv ∙ c.least-low.ensures
-    ∙ ap₂ lesser (result_seen least-low.result least-low.type_inv ∙ least-low.ensures ∙ ap₂ lesser ll lh)
-    (result_seen least-high.result least-high.type_inv ∙ least-high.ensures ∙ ap₂ lesser hl hh))
-    (result_seen c.most-high.result c.most-high.type_inv ∙ c.most-high.ensures
-    ∙ ap₂ greater (result_seen most-low.result most-low.type_inv ∙ most-low.ensures ∙ ap₂ greater ll lh)
-    (result_seen most-high.result most-high.type_inv ∙ most-high.ensures ∙ ap₂ greater hl hh)))
+    (result_seen c.min-3.result c.min-3.type_inv ∙ c.min-3.ensures.value ∙ min_lesser _ _
+    ∙ ap₂ lesser (result_seen min_lh.result min_lh.type_inv ∙ min_lh.ensures.value ∙ min_lesser _ _ ∙ ap₂ lesser ll lh)
+    (result_seen min_hl.result min_hl.type_inv ∙ min_hl.ensures.value ∙ min_lesser _ _ ∙ ap₂ lesser hl hh))
+    (result_seen c.max-3.result c.max-3.type_inv ∙ c.max-3.ensures.value ∙ max_greater _ _
+    ∙ ap₂ greater (result_seen max_lh.result max_lh.type_inv ∙ max_lh.ensures.value ∙ max_greater _ _ ∙ ap₂ greater ll lh)
+    (result_seen max_hl.result max_hl.type_inv ∙ max_hl.ensures.value ∙ max_greater _ _ ∙ ap₂ greater hl hh)))

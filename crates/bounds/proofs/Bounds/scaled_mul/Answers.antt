@@ -1,8 +1,6 @@
 -- Each product is that of the natural ends, and stays below 2^63. Assumes nothing.
 use mathlib.Core.Path.{◌≡◌, ap, ap₂, ◌∙◌}
 use Prim.Native.Nat.{ℕ, ◌+◌, ◌*◌, ◌/◌}
-use native.Mathlib.Nat.{div-le_self}
-use native.Mathlib.Omega.{arith}
 use borrow.Author.Rules.{rules}
 use lib.IntN.{pos}
 use Rattle.numbers.proofs.Machine.{seen_up}
@@ -11,39 +9,6 @@ use Rattle.bounds.specs.Pair.{scaled_p}
 use Rattle.bounds.specs.Operations.{scaled_b}
 use Rattle.bounds.proofs.Enclosure.{same_ends, scaled_product}
 use Rattle.bounds.proofs.Bounds.scaled_mul.Goals as goal
-
-pub overflow_mul-low : goal.overflow_mul-low
-overflow_mul-low c =
-    let low_product : c.natural.result * c.natural-2.result ≡ up c.args.self.low * up c.args.other.low =
-    ap₂ ◌*◌ (seen_up c.args.self.low (search rules) c.natural.ensures)
-    (seen_up c.args.other.low (search rules) c.natural-2.ensures) in
-    omega (arith, low_product, c.requires.low)
-
-pub overflow_mul-high : goal.overflow_mul-high
-overflow_mul-high c =
-    let high_product : c.natural-3.result * c.natural-4.result ≡ up c.args.self.high * up c.args.other.high =
-    ap₂ ◌*◌ (seen_up c.args.self.high (search rules) c.natural-3.ensures)
-    (seen_up c.args.other.high (search rules) c.natural-4.ensures) in
-    omega (arith, high_product, c.requires.high)
-
-pub overflow_add-high : goal.overflow_add-high
-overflow_add-high c =
-    let high_product : c.natural-3.result * c.natural-4.result ≡ up c.args.self.high * up c.args.other.high =
-    ap₂ ◌*◌ (seen_up c.args.self.high (search rules) c.natural-3.ensures)
-    (seen_up c.args.other.high (search rules) c.natural-4.ensures) in
-    omega (arith, high_product, div-le_self (c.natural-3.result * c.natural-4.result) c.args.scale, c.requires.high)
-
-pub from_naturals-requires : goal.from_naturals-requires
-from_naturals-requires c =
-    let low_product : c.natural.result * c.natural-2.result ≡ up c.args.self.low * up c.args.other.low =
-    ap₂ ◌*◌ (seen_up c.args.self.low (search rules) c.natural.ensures)
-    (seen_up c.args.other.low (search rules) c.natural-2.ensures) in
-    let high_product : c.natural-3.result * c.natural-4.result ≡ up c.args.self.high * up c.args.other.high =
-    ap₂ ◌*◌ (seen_up c.args.self.high (search rules) c.natural-3.ensures)
-    (seen_up c.args.other.high (search rules) c.natural-4.ensures) in (
-      omega (arith, low_product, div-le_self (c.natural.result * c.natural-2.result) c.args.scale, c.requires.low),
-      omega (arith, high_product, div-le_self (c.natural-3.result * c.natural-4.result) c.args.scale, c.requires.high),
-    )
 
 pub returns : goal.returns
 unfolding scaled_b scaled_p

@@ -1,27 +1,32 @@
--- The loop's invariant: the value is that of the first part with the name from the k-th on. The measure is what is left of the cell.
-use mathlib.Core.Path.{refl, sym, ◌∙◌}
-use native.Mathlib.Nat.{sub-zero}
-use native.Mathlib.Omega.{arith}
-use Rattle.reference_rows.specs.Cells.{value_in}
-use Rattle.reference_rows.proofs.Marks.{named, unnamed, none_left}
+-- The first part that has the name, of those that the library's `split` gives.
+use Rattle.std.proofs.Common.{rules, tests, ◌≡◌, ◌∙◌, ap, sym, ℕ, List, [], Bor, Option, Some, None, unwrap_or, option_map, ◌==◌}
+use Rattle.std.specs.Prelude.{bytes_eq, find}
+use Rattle.std.proofs.lemmas.Iterator.Search.{find_from_yields_List}
+use Rattle.std.proofs.lemmas.Iterator.Splits.{YieldsList-from_slice_split}
+use Rattle.reference_rows.specs.Cells.{parts, part_at, semicolon, equals, value_in}
 use Rattle.reference_rows.proofs.cells.value.Goals as goal
 
-pub loop-k-init : goal.loop-k-init
-unfolding value_in
-loop-k-init c = (omega arith, simp sub-zero)
+module _ (name cell : List ℕ) {r : Option (Bor (List ℕ))} (is : option_map (λ x. x.now) r ≡ find (λ p. bytes_eq (part_at equals 0 p) name) (parts semicolon cell)) where
+  of_first : {pair : Bor (List ℕ)} {x : List ℕ} → r ≡ Some pair → x ≡ part_at equals 1 pair.now → x ≡ value_in name cell
+  unfolding value_in
+  of_first e p = p ∙ ap (λ t. unwrap_or (option_map (part_at equals 1) t) []) (ap (option_map (λ y. y.now)) (sym e) ∙ is)
 
-pub returns-then-same : goal.returns-then-same
-returns-then-same c =
-    let l = c.loop-k in
-    named _ _ l.k c.part-pair.ensures c.part.ensures l.invariant.1 (omega arith) (sym c.same.ensures ∙ c.if-same.true) c.part-then-same.ensures
+  of_none : r ≡ None → [] ≡ value_in name cell
+  unfolding value_in
+  of_none e = ap (λ t. unwrap_or (option_map (part_at equals 1) t) []) (ap (option_map (λ y. y.now)) (sym e) ∙ is)
 
-pub loop-k-preserved : goal.loop-k-preserved
-loop-k-preserved c =
-    let l = c.loop-k in
-    (omega arith, unnamed _ _ l.k c.part-pair.ensures c.part.ensures l.invariant.1 (omega arith) (sym c.same.ensures ∙ c.if-same.false))
+pub returns-in-Some : goal.returns-in-Some
+returns-in-Some c =
+    of_first c.args.name.now c.args.cell.now
+    (find_from_yields_List (λ p. bytes_eq (part_at equals 0 p) c.args.name.now) _ _ _ c.find-found.ensures.ran
+    (YieldsList-from_slice_split _ (λ x. x == semicolon) c.args.cell.now c.split.ensures.rest c.split.ensures.done c.split.ensures.closure (λ x b q k. search (rules, tests)))
+    (λ x b q k. search (rules, tests)))
+    c.in-Some.is c.part.ensures
 
-pub slice_bounds-result-end : goal.slice_bounds-result-end
-slice_bounds-result-end c = refl
-
-pub returns : goal.returns
-returns c = let l = c.loop-k in let a = c.args in none_left a.name.now a.cell.now l.k l.invariant.1 (omega arith)
+pub returns-in-None : goal.returns-in-None
+returns-in-None c =
+    of_none c.args.name.now c.args.cell.now
+    (find_from_yields_List (λ p. bytes_eq (part_at equals 0 p) c.args.name.now) _ _ _ c.find-found.ensures.ran
+    (YieldsList-from_slice_split _ (λ x. x == semicolon) c.args.cell.now c.split.ensures.rest c.split.ensures.done c.split.ensures.closure (λ x b q k. search (rules, tests)))
+    (λ x b q k. search (rules, tests)))
+    c.in-None.is

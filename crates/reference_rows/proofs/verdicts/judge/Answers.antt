@@ -1,16 +1,17 @@
 -- The refusal that is named, or the results.
-use mathlib.Core.Path.{sym}
-use lib.ListN.{length}
+use Rattle.std.proofs.Common.{arith, ◌<◌, ◌≤◌, sym, length}
 use borrow.Author.Tests.{lt-ltb, le-ltb}
 use Rattle.reference_rows.specs.Verdicts.{verdict_of}
 use Rattle.reference_rows.proofs.verdicts.judge.Goals as goal
 
-pub returns-then-refused-gt0 : goal.returns-then-refused-gt0
+pub returns-then-is_empty : goal.returns-then-is_empty
 unfolding verdict_of
-returns-then-refused-gt0 c =
-    rw (sym c.value-refused.ensures, lt-ltb 0 _ c.if-refused-gt0.true) c.refusal.ensures
+returns-then-is_empty c =
+    let none : length c.value-refused.result.now ≤ 0 = grind arith in
+    rw (sym c.value-refused.ensures, le-ltb 0 (length c.value-refused.result.now) none) c.by_results.ensures
 
-pub returns : goal.returns
+pub returns-else-is_empty : goal.returns-else-is_empty
 unfolding verdict_of
-returns c =
-    rw (sym c.value-refused.ensures, le-ltb 0 (length c.value-refused.result.now) c.if-refused-gt0.false) c.by_results.ensures
+returns-else-is_empty c =
+    let some : 0 < length c.value-refused.result.now = grind arith in
+    rw (sym c.value-refused.ensures, lt-ltb 0 _ some) c.refusal.ensures

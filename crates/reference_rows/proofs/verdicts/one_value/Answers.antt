@@ -1,24 +1,19 @@
 -- Each number that is read, or that it is none.
-use mathlib.Core.Path.{refl, ap, sym, ◌∙◌}
-use mir.Syntax.{w64}
-use mir.Val.{SFits}
-use Rattle.reference_rows.specs.Verdicts.{placed, by_value}
-use Rattle.reference_rows.proofs.Judging.{value_seen}
-use borrow.Author.Rules.{rules}
+use Rattle.std.proofs.Common.{rules, ◌≡◌, ◌∙◌, ap, sym, Some}
+use Rattle.reference_rows.specs.Results.{is_value}
+use Rattle.reference_rows.specs.Verdicts.{by_value}
 use Rattle.reference_rows.proofs.verdicts.one_value.Goals as goal
 
-pub returns-in_default : goal.returns-in_default
+pub returns-in_err-from : goal.returns-in_err-from
 unfolding by_value
-returns-in_default c = rw (sym c.integer.ensures ∙ c.in_default.is) refl
+returns-in_err-from c = rw (sym c.integer.ensures ∙ c.in_err-from.was) c.from_residual.ensures
 
-pub returns-in_default-integer : goal.returns-in_default-integer
+pub returns-in_err-to : goal.returns-in_err-to
 unfolding by_value
-returns-in_default-integer c =
-    rw (sym c.integer.ensures ∙ c.in-Integer.is, sym c.integer-2.ensures ∙ c.in_default-integer.is) refl
+returns-in_err-to c = rw (sym c.integer.ensures ∙ c.in_ok-from.was, sym c.integer-2.ensures ∙ c.in_err-to.was) c.from_residual-in_err-to.ensures
 
 pub returns : goal.returns
 unfolding by_value
 returns c =
-    let from_fits : SFits w64 c.in-Integer.from = search rules in
-    let to_fits : SFits w64 c.in-Integer-integer.to = search rules in
-    rw (sym c.integer.ensures ∙ c.in-Integer.is, sym c.integer-2.ensures ∙ c.in-Integer-integer.is) (c.placed.ensures ∙ ap placed (value_seen c.args.said from_fits to_fits c.is_value.ensures))
+    let said_is : c.is_value.result ≡ is_value c.args.said c.in_ok-from.from c.in_ok-to.to = search rules in
+    rw (sym c.integer.ensures ∙ c.in_ok-from.was, sym c.integer-2.ensures ∙ c.in_ok-to.was) (ap Some said_is)

@@ -1,20 +1,19 @@
 -- Each number that is read, or that it is none.
-use mathlib.Core.Path.{refl, ap, sym, ◌∙◌}
+use Rattle.std.proofs.Common.{◌∙◌, ap, sym, Some}
 use Rattle.reference_rows.specs.Cells.{number_from}
-use Rattle.reference_rows.specs.Verdicts.{placed, by_refusal}
+use Rattle.reference_rows.specs.Verdicts.{by_refusal}
 use Rattle.reference_rows.proofs.verdicts.refusal.Goals as goal
 
-pub returns-in_default : goal.returns-in_default
+pub returns-in_err-number : goal.returns-in_err-number
 unfolding by_refusal
-returns-in_default c =
-    rw (sym (c.whole.ensures ∙ ap number_from c.part.ensures) ∙ c.in_default.is) refl
+returns-in_err-number c = rw (sym (c.whole.ensures ∙ ap number_from c.part.ensures) ∙ c.in_err-number.was) c.from_residual.ensures
 
-pub returns-in_default-whole : goal.returns-in_default-whole
+pub returns-in_err-place : goal.returns-in_err-place
 unfolding by_refusal
-returns-in_default-whole c =
-    rw (sym (c.whole.ensures ∙ ap number_from c.part.ensures) ∙ c.in-Whole.is, sym (c.whole-2.ensures ∙ ap number_from c.part-2.ensures) ∙ c.in_default-whole.is) refl
+returns-in_err-place c =
+    rw (sym (c.whole.ensures ∙ ap number_from c.part.ensures) ∙ c.in_ok-number.was, sym (c.whole-2.ensures ∙ ap number_from c.part-2.ensures) ∙ c.in_err-place.was) c.from_residual-in_err-place.ensures
 
 pub returns : goal.returns
 unfolding by_refusal
 returns c =
-    rw (sym (c.whole.ensures ∙ ap number_from c.part.ensures) ∙ c.in-Whole.is, sym (c.whole-2.ensures ∙ ap number_from c.part-2.ensures) ∙ c.in-Whole-whole.is) (c.placed.ensures ∙ ap placed c.refuses.ensures)
+    rw (sym (c.whole.ensures ∙ ap number_from c.part.ensures) ∙ c.in_ok-number.was, sym (c.whole-2.ensures ∙ ap number_from c.part-2.ensures) ∙ c.in_ok-place.was) (ap Some c.refuses.ensures)

@@ -1,48 +1,30 @@
 -- Each number that is read, or that it is none.
-use mathlib.Core.Path.{◌≡◌, refl, ap, sym, ◌∙◌}
-use mir.Syntax.{w64}
-use mir.Val.{SFits}
-use Rattle.text.specs.declared.Signed.TheVariants.{Integer}
-use Rattle.reference_rows.specs.Verdicts.{low_min, low_max, high_min, high_max, integer_in, placed, by_ranges}
-use Rattle.reference_rows.proofs.Judging.{ranges_seen}
-use borrow.Author.Rules.{rules}
+use Rattle.std.proofs.Common.{rules, ◌≡◌, ◌∙◌, ap, sym, Some}
+use Rattle.reference_rows.specs.Results.{in_ranges}
+use Rattle.reference_rows.specs.Verdicts.{by_ranges}
 use Rattle.reference_rows.proofs.verdicts.share_ranges.Goals as goal
 
-pub returns-in_default : goal.returns-in_default
+pub returns-in_err-low_min : goal.returns-in_err-low_min
 unfolding by_ranges
-returns-in_default c = rw (sym c.integer.ensures ∙ c.in_default.is) refl
+returns-in_err-low_min c = rw (sym c.integer.ensures ∙ c.in_err-low_min.was) c.from_residual.ensures
 
-pub returns-in_default-integer : goal.returns-in_default-integer
+pub returns-in_err-low_max : goal.returns-in_err-low_max
 unfolding by_ranges
-returns-in_default-integer c =
-    let low_min_is : integer_in low_min c.args.results.now ≡ Integer c.in-Integer.low_min = sym c.integer.ensures ∙ c.in-Integer.is in
-    rw (low_min_is, sym c.integer-2.ensures ∙ c.in_default-integer.is) refl
+returns-in_err-low_max c = rw (sym c.integer.ensures ∙ c.in_ok-low_min.was, sym c.integer-2.ensures ∙ c.in_err-low_max.was) c.from_residual-in_err-low_max.ensures
 
-pub returns-in_default-integer-2 : goal.returns-in_default-integer-2
+pub returns-in_err-high_min : goal.returns-in_err-high_min
 unfolding by_ranges
-returns-in_default-integer-2 c =
-    let low_min_is : integer_in low_min c.args.results.now ≡ Integer c.in-Integer.low_min = sym c.integer.ensures ∙ c.in-Integer.is in
-    let low_max_is : integer_in low_max c.args.results.now ≡ Integer c.in-Integer-integer.low_max = sym c.integer-2.ensures ∙ c.in-Integer-integer.is in
-    rw (low_min_is, low_max_is, sym c.integer-3.ensures ∙ c.in_default-integer-2.is) refl
+returns-in_err-high_min c =
+    rw (sym c.integer.ensures ∙ c.in_ok-low_min.was, sym c.integer-2.ensures ∙ c.in_ok-low_max.was, sym c.integer-3.ensures ∙ c.in_err-high_min.was) c.from_residual-in_err-high_min.ensures
 
-pub returns-in_default-integer-3 : goal.returns-in_default-integer-3
+pub returns-in_err-high_max : goal.returns-in_err-high_max
 unfolding by_ranges
-returns-in_default-integer-3 c =
-    let low_min_is : integer_in low_min c.args.results.now ≡ Integer c.in-Integer.low_min = sym c.integer.ensures ∙ c.in-Integer.is in
-    let low_max_is : integer_in low_max c.args.results.now ≡ Integer c.in-Integer-integer.low_max = sym c.integer-2.ensures ∙ c.in-Integer-integer.is in
-    let high_min_is : integer_in high_min c.args.results.now ≡ Integer c.in-Integer-integer-2.high_min = sym c.integer-3.ensures ∙ c.in-Integer-integer-2.is in
-    rw (low_min_is, low_max_is, high_min_is, sym c.integer-4.ensures ∙ c.in_default-integer-3.is) refl
+returns-in_err-high_max c =
+    rw (sym c.integer.ensures ∙ c.in_ok-low_min.was, sym c.integer-2.ensures ∙ c.in_ok-low_max.was, sym c.integer-3.ensures ∙ c.in_ok-high_min.was, sym c.integer-4.ensures ∙ c.in_err-high_max.was) c.from_residual-in_err-high_max.ensures
 
 pub returns : goal.returns
 unfolding by_ranges
 returns c =
-    let low_min_is : integer_in low_min c.args.results.now ≡ Integer c.in-Integer.low_min = sym c.integer.ensures ∙ c.in-Integer.is in
-    let low_min_fits : SFits w64 c.in-Integer.low_min = search rules in
-    let low_max_is : integer_in low_max c.args.results.now ≡ Integer c.in-Integer-integer.low_max = sym c.integer-2.ensures ∙ c.in-Integer-integer.is in
-    let low_max_fits : SFits w64 c.in-Integer-integer.low_max = search rules in
-    let high_min_is : integer_in high_min c.args.results.now ≡ Integer c.in-Integer-integer-2.high_min = sym c.integer-3.ensures ∙ c.in-Integer-integer-2.is in
-    let high_min_fits : SFits w64 c.in-Integer-integer-2.high_min = search rules in
-    let high_max_is : integer_in high_max c.args.results.now ≡ Integer c.in-Integer-integer-3.high_max = sym c.integer-4.ensures ∙ c.in-Integer-integer-3.is in
-    let high_max_fits : SFits w64 c.in-Integer-integer-3.high_max = search rules in
-    rw (low_min_is, low_max_is, high_min_is, high_max_is)
-    (c.placed.ensures ∙ ap placed (ranges_seen c.args.said low_min_fits low_max_fits high_min_fits high_max_fits c.in_ranges.ensures))
+    let said_is : c.in_ranges.result ≡ in_ranges c.args.said c.in_ok-low_min.low_min c.in_ok-low_max.low_max c.in_ok-high_min.high_min c.in_ok-high_max.high_max = search rules in
+    rw (sym c.integer.ensures ∙ c.in_ok-low_min.was, sym c.integer-2.ensures ∙ c.in_ok-low_max.was, sym c.integer-3.ensures ∙ c.in_ok-high_min.was, sym c.integer-4.ensures ∙ c.in_ok-high_max.was)
+    (ap Some said_is)

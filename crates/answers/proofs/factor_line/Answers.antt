@@ -1,5 +1,0 @@
--- The line of what the answer states.
-use Rattle.answers.proofs.factor_line.Goals as goal
-
-pub returns : goal.returns
-returns c = rw c.parts.ensures at c.answer_line.ensures
