@@ -42,10 +42,7 @@ pub fn record_at(sheet: &[u8], number: usize) -> Option<LoadRecord>
         return None;
     }
     if number == 0 {
-        return Some(before_first(
-            header::starting_current(sheet),
-            header::first_link(sheet),
-        ));
+        return Some(before_first(header::starting_current(sheet), header::first_link(sheet)));
     }
     Some(held_record(sheet, number))
 }
@@ -68,10 +65,7 @@ fn held_record(sheet: &[u8], number: usize) -> LoadRecord
 }
 
 // What was read at the link of the record `before`, or its first refusal.
-pub fn check_record(
-    before: LoadRecord,
-    read: Option<LoadRecord>,
-) -> Result<LoadRecord, Refusal>
+pub fn check_record(before: LoadRecord, read: Option<LoadRecord>) -> Result<LoadRecord, Refusal>
     ensures { RecordSaid before read result }
 {
     let Some(record) = read else {
