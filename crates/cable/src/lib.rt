@@ -8,7 +8,7 @@ ghost use Rattle.cable_rules.specs.Promises.{Checked, Alone, GivenBy};
 pub use cable_rules::Cable;
 use refusals::{Place, Refusal};
 
-// The cable of its fields in table order; there are eight at least.
+// The cable of its fields in table order; there are eight at least. No From, which could not ask for that; a cable's fields are also the first of more numbers.
 pub fn cable_from(fields: &[u32]) -> Cable
     requires { 8 ≤ length fields.now }
     ensures { result ≡ cable_from fields.now }

@@ -24,7 +24,7 @@ pub struct Refusal {
     pub place: Place,
 }
 
-// The place's number, 0 for none.
+// The place's number, 0 for none, as the C interface has it.
 fn place_number(place: Place) -> u8
     ensures { result ≡ place_number place }
 {
@@ -37,7 +37,7 @@ fn place_number(place: Place) -> u8
     }
 }
 
-// The kinds of place by number, in document 01's order, and 0 for none.
+// The kinds of place by number, in document 01's order, and 0 for none, as the C interface has them.
 fn kind_number(place: Place) -> u8
     ensures { result ≡ kind_number (place_kind place) }
 {

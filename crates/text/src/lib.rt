@@ -61,6 +61,7 @@ fn integer(spelled: Option<u64>, minus: bool) -> Option<i64>
     }
 }
 
+// Not a `From`: a size has no sign of its own.
 fn with_sign(size: u64, minus: bool) -> i64
     requires { size < beyond_signed }
     ensures { result ≡ with_sign minus size }
