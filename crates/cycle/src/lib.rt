@@ -82,8 +82,8 @@ pub fn parts(answer: FactorAnswer) -> Parts
     }
 }
 
-// The factor of a day. The six shares, at hours of 60 minutes, are worked out once for all 24 hours. They are set by their index, since after an `iter_mut` a
-// proof knows no element.
+// The factor of a day. The six shares, at hours of 60 minutes, are worked out once for all 24 hours. They are set by their index: a
+// share's refusal ends the loop, which `array::from_fn` cannot, and after an `iter_mut` a proof knows no element.
 fn factor_of_day(ground: Ground, hours: [u16; DAY_HOURS]) -> FactorAnswer
     requires { 0 < highest_load hours }
     ensures { result ≡ Factor (largest_factor (heating_sum (hour_pair (group_at ground.entry)) hours (reference_hour (hour_pair (group_at ground.entry)) hours))) }

@@ -1,12 +1,11 @@
 -- The answer of a cyclic factor in each of its ways out, and the shares that are given at whole hours.
-use Rattle.std.proofs.Common.{Option, Some, None}
+use Rattle.std.proofs.Common.{Some, None}
 use mathlib.Core.Path.{◌≡◌, sym, ap, ◌∙◌}
 use mathlib.Core.Bool.{true, false}
 use mathlib.Core.List.{List}
 use Prim.Native.Nat.{ℕ, suc, ◌+◌, ◌*◌, ◌≤◌, ◌<◌}
 use native.Mathlib.Numerals.{add-one}
 use native.Mathlib.Omega.{arith}
-use borrow.Author.Tests.{lt-ltb, le-ltb}
 use lib.ListN.{length}
 use lib.IntN.{ℤ, pos, negsuc, nat_abs}
 use lib.Signed.{◌≤ℤ◌}
@@ -23,7 +22,7 @@ use Rattle.share_rules.proofs.Promises.{share_pair_range, answered_pair}
 use Rattle.cycle_rules.specs.Day.{day_hours, highest_load}
 use Rattle.cycle_rules.specs.Heating.{heating_hours, heating_sum, reference_hour}
 use Rattle.cycle_rules.specs.Factor.{largest_factor}
-use Rattle.cycle_rules.specs.Answer.{first_above, all_zero, refused10, refused11, after_hours, factor_from, hour_pair, factor_answer}
+use Rattle.cycle_rules.specs.Answer.{first_above, all_zero, refused10, refused11, factor_from, hour_pair, factor_answer}
 use Rattle.cycle_rules.specs.declared.FactorAnswer.{FactorAnswer}
 use Rattle.cycle_rules.specs.declared.FactorAnswer.TheVariants.{Factor, Refused}
 use Rattle.cycle_rules.proofs.Day.{highest_zero, some_loaded}

@@ -38,7 +38,8 @@ fn current_given(given: Result<Ground, Refusal>, h: u32, r: u32, minutes: u32) -
     granting::after_share(answer, rated_of(given), h, r)
 }
 
-// The rated current of what is given; where that is refused there is none.
+// The rated current of what is given; where that is refused there is none, and 0 stands for it: `after_share` hands the refusal on before it reads one, so an
+// Option would only be taken apart there again.
 fn rated_of(given: Result<Ground, Refusal>) -> u32
     ensures { result ≡ rated_of given.entry }
 {

@@ -46,6 +46,7 @@ pub fn after_share(answer: ShareAnswer, rated: u32, h: u32, r: u32) -> CurrentAn
     CurrentAnswer::Current(certifying::largest_certified(rated, h, r, high_share(pair)))
 }
 
+// Not a `From`, which could not ask that a share is not below 0.
 fn high_share(pair: Bounds) -> u64
     requires { Millionths pair }
     ensures { result ≡ up pair.high }

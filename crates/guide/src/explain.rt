@@ -3,7 +3,7 @@ use crate::say;
 use std::io;
 use std::io::Print;
 
-// The condition of a number.
+// The condition of a number, as it was typed; with its place, it is another function, since `rating explain` takes one word or two.
 pub fn refusal(rt: &HostRuntime, number: u32) {
     explain(rt, number, None);
 }

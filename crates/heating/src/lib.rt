@@ -52,7 +52,7 @@ impl Day {
         sum.divided(self.divisor)
     }
 
-    // What multiplies G(i + 1).
+    // What multiplies G(i + 1). That an hour is one of the day is asked by each of these methods: it is the caller's, and no fact of the day.
     fn gathered_load(&self, hour: usize, i: usize) -> Bounds
         requires { (hour < day_hours) × (i < heating_hours) }
         ensures { result ≡ point_b (gathered_load self.now.hours hour i) }

@@ -70,7 +70,7 @@ pub fn logarithm(x: u64, y: u64) -> Bounds
     LN_TWO.times(doublings).add(logarithm_slice(base, y))
 }
 
-// A row of a table: its low end and its high end.
+// A row of a table: its low end and its high end. No `From`: a pair of numbers and `Bounds` are both of other crates.
 fn row(ends: (u32, u32)) -> Bounds
     ensures { result ≡ as_bounds (record { low = ends.0; high = ends.1 }) }
 {
@@ -154,7 +154,7 @@ fn far_exp(near: u64, diffusion: u64) -> Bounds
 }
 
 impl Reach {
-    // With one slice more; no sum passes the logarithm. In units of 2^-30.
+    // With one slice more; no sum passes the logarithm, which each of the methods that add asks of the sum that it is handed. In units of 2^-30.
     fn joined(self, sum: Bounds, slice: Bounds) -> Bounds
         requires sum_most { UpTo self.top sum }
         requires slice_most { UpTo (2 * one) slice }

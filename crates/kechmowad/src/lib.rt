@@ -91,7 +91,7 @@ pub extern "C" fn kechmowad_current_in_sheet(
     *answer = copied(emergency::parts(current));
 }
 
-// What an answer states, but for the count of its values, which the caller knows.
+// What an answer states, but for the count of its values, which the caller knows. No `From`: an array and `Parts` are both of other crates.
 fn copied(parts: Parts) -> [i64; 5]
     ensures { result ≡ five_of parts }
 {

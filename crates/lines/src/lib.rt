@@ -7,7 +7,8 @@ ghost use Rattle.lines.specs.Lines.{Says, refusal_line, answer_line};
 use refusals::Parts;
 use text::Line;
 
-// By the count of values, since the parts are plain numbers for the C interface: `refused NUMBER PLACE`, `WORD VALUE` or `WORD LOW HIGH`.
+// A line and no `Display`, whose `write!` could fail. By the count of values, since the parts are plain numbers for the C interface:
+// `refused NUMBER PLACE`, `WORD VALUE` or `WORD LOW HIGH`.
 #[tactic(auto, unfolding(crate::specs::Lines::answer_line))]
 pub fn answer_line(word: &[u8], parts: Parts) -> Line
     requires { length word.now ≤ 8 }

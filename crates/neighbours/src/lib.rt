@@ -47,7 +47,7 @@ pub fn near_of(depth: u32, neighbour: LoadRecord) -> u64
     numbers::square(aside(neighbour.minutes)) + numbers::square(depth.abs_diff(neighbour.amperes))
 }
 
-// m² in mm²: that to the neighbour's image above ground.
+// m² in mm²: that to the neighbour's image above ground. Not one function with `near_of`, which would be handed the one operator that differs.
 pub fn image_of(depth: u32, neighbour: LoadRecord) -> u64
     requires { (depth ≤ 5000) × (neighbour.amperes ≤ most_depth) }
     ensures { result ≡ (source_of depth (neighbour_of neighbour)).image }

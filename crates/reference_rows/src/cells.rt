@@ -6,14 +6,15 @@ ghost use Rattle.reference_rows.specs.Cells.{part_at, value_in, number_from};
 // Above every number that a row may ask: a larger one is read as this.
 const BEYOND: u32 = u32::MAX;
 
-// The part with a number, counted from 0, of a text with such bytes between its parts: nothing where there are fewer.
+// The part with a number, counted from 0, of a text with such bytes between its parts: nothing where there are fewer, and no Option,
+// since a row's empty part and one that is missing are read alike.
 pub fn part(text: &[u8], byte: u8, number: usize) -> &[u8]
     ensures { result.now ≡ part_at byte number text.now }
 {
     text.split(|x| *x == byte).nth(number).unwrap_or(&[])
 }
 
-// The first value of that name in a cell: nothing where the name is missing.
+// The first value of that name in a cell: nothing where the name is missing, as of a part.
 pub fn value<'a>(cell: &'a [u8], name: &[u8]) -> &'a [u8]
     ensures { result.now ≡ value_in name.now cell.now }
 {

@@ -14,7 +14,8 @@ pub fn day_in(cell: &[u8]) -> Option<[u16; DAY_HOURS]>
     day_of(cells::value(cell, b"hours"))
 }
 
-// Of 24 numbers with commas between, and no more. They are set by their index, since after an `iter_mut` a proof knows no element.
+// Of 24 numbers with commas between, and no more. They are set by their index: what is no number ends the loop, which
+// `array::from_fn` cannot, and after an `iter_mut` a proof knows no element.
 fn day_of(list: &[u8]) -> Option<[u16; DAY_HOURS]>
     ensures { DayOf list.now result }
 {

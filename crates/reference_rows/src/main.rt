@@ -41,7 +41,8 @@ fn main(rt: HostRuntime) {
     print_counts(&rt, counts);
 }
 
-// The counts with the rows of a file, each of which has its line.
+// The counts with the rows of a file, each of which has its line. That there is room for what is counted is asked of the counts at hand, other room in each
+// function, and so it is no fact of the type.
 fn table(rt: &HostRuntime, name: &str, counts: Counts) -> Counts
     requires { rows_in counts + table_room ≤ most_rows }
     ensures { rows_in result ≤ rows_in counts + table_room }

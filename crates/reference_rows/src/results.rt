@@ -22,7 +22,8 @@ fn between(least: i64, n: i64, most: i64) -> bool
     least <= n && n <= most
 }
 
-// Whether low is at most the exact value, and high at least: above the whole part of it where there is more.
+// Whether low is at most the exact value, and high at least: above the whole part of it where there is more. `more` is the digits after the point, held at 1 as
+// they are read.
 fn encloses(said: Parts, floor: i64, more: u32) -> bool
     ensures { result ≡ encloses said floor more }
 {

@@ -18,6 +18,7 @@ pub fn judge(kind: Kind, results: &[u8], said: Parts) -> Option<bool>
     }
 }
 
+// By a match, since the kinds name other results.
 fn by_results(kind: Kind, results: &[u8], said: Parts) -> Option<bool>
     ensures { result ≡ by_results kind results.now said }
 {

@@ -1,5 +1,5 @@
-// Reads a sheet from standard input and prints its rise as `rise` does, with the chain walked by the reader. What is no answer goes to standard error. A program
-// of its own, since each of the two has a stdout that is compared.
+// Reads a sheet from standard input and prints its rise as `rise` does, with the chain walked by the reader. What is no answer goes to standard error.
+// A program of its own, since each of the two has a stdout that is compared.
 #![tactic(auto)]
 
 use std::io::Print;

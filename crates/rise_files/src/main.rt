@@ -83,6 +83,7 @@ fn print_word(rt: &HostRuntime, k: usize) {
     }
 }
 
+// Two short functions, by either walk, since each hands in another one.
 fn plain_rise(rt: &HostRuntime, k: usize) -> std::io::Result<RiseAnswer> {
     let mut sheet = sheet_named(rt, k)?;
     report::rise_from(&mut sheet, history::rise)
@@ -172,7 +173,7 @@ fn print_against(rt: &HostRuntime, k: usize, j: usize) {
     }
 }
 
-// Whether two answers state the same: refusal, kind and number of its place, count of values, and values.
+// Whether two answers state the same: refusal, kind and number of its place, count of values, and values. The derived `==`, with what it says as clauses.
 fn same(a: Parts, b: Parts) -> bool
     ensures alike { result ≡ true → a ≡ b }
     ensures differ { result ≡ false → a ≡ b → ⊥ }

@@ -8,6 +8,7 @@ ghost use Rattle.sheet_rules.specs.OneProof.{laid_prop};
 use cable_rules::Cable;
 
 // What stands before the records: the cable, the starting current in A, the first link, and the first of the neighbours' links, 0 in a short header.
+// A link is 0 for none, here and below, and no Option: document 01 has "the zero link", and the definitions walk by it.
 #[derive(Clone, Copy)]
 pub struct Header {
     pub cable: Cable,

@@ -160,6 +160,7 @@ fn share_after(cable: Cable, hours: u32) -> ShareAnswer
     }
 }
 
+// Not a `From`, which could not ask that the ends are those of a share.
 fn ends_of(pair: Bounds) -> Ends
     requires { Millionths pair }
     ensures { result ≡ ends_of pair }

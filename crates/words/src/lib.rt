@@ -43,7 +43,8 @@ pub fn read(
         return Err(Fault::Count);
     }
     let mut values = [0u32; ROOM];
-    // By index: a word that is no number ends the call, and after an `iter_mut` a proof knows no element.
+    // Set by index in an array of all places, since answers are read from fixed places and the contract has 0 behind: a word that is no number ends the call,
+    // which `array::from_fn` cannot, and after an `iter_mut` a proof knows no element.
     for k in 0..wanted {
         values[k] = word_at(rt, first + k).ok_or(Fault::NotWhole(k + 1))?;
     }

@@ -1,7 +1,5 @@
 -- Case by case, what the check gives. Assumes nothing.
-use Rattle.std.proofs.Common.{◌≡◌, sym, ◌∙◌, Result, Ok, Err, rules}
-use Rattle.refusals.specs.declared.Refusal.{Refusal}
-use Rattle.cable_rules.specs.declared.Cable.{Cable}
+use Rattle.std.proofs.Common.{◌≡◌, Ok, Err, rules}
 use Rattle.cable_rules.specs.Checks.{checked}
 use Rattle.cable_rules.proofs.Acceptance.{check_given, check_refused}
 use Rattle.cable.proofs.given.Goals as goal

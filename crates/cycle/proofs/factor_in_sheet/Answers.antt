@@ -8,9 +8,6 @@ use Rattle.cycle_rules.proofs.Answers.{answer_given}
 use Rattle.cycle_rules.proofs.Said.{said}
 use Rattle.cycle.proofs.factor_in_sheet.Goals as goal
 
-pub given-requires : goal.given-requires
-given-requires c = tt
-
 pub returns : goal.returns
 returns c =
     said (sheet_sound _) (good_length (e_int w16) day_hours c.args.hours _ c.well_formed.1.0)

@@ -1,15 +1,12 @@
 -- The loop fills the six shares; the share of an accepted group is not refused at a whole hour. Assumes nothing.
-use mathlib.Core.Path.{refl, sym, ap, ◌∙◌}
+use mathlib.Core.Path.{sym, ap, ◌∙◌}
 use native.Mathlib.Omega.{arith}
 use Rattle.bounds.specs.declared.Bounds.{Bounds}
 use Rattle.cycle_rules.specs.Factor.{largest_factor}
 use Rattle.cycle_rules.specs.declared.FactorAnswer.TheVariants.{Factor}
 use Rattle.cycle_rules.proofs.Answers.{hour_answered, hour_not_refused}
-use Rattle.cycle_rules.proofs.Shares.{none_filled, next_filled, filled_shared, same_largest}
+use Rattle.cycle_rules.proofs.Shares.{next_filled, filled_shared, same_largest}
 use Rattle.cycle.proofs.factor_of_day.Goals as goal
-
-pub loop-i-init : goal.loop-i-init
-loop-i-init c = (omega arith, none_filled refl)
 
 pub returns-in_default : goal.returns-in_default
 returns-in_default c =
@@ -22,9 +19,6 @@ loop-i-preserved c =
 
 pub largest_sum-requires : goal.largest_sum-requires
 largest_sum-requires c = filled_shared c.loop-i.invariant.1 (omega arith) _ c.requires
-
-pub largest_factor-requires : goal.largest_factor-requires
-largest_factor-requires c = c.largest_sum.ensures.1
 
 pub returns : goal.returns
 returns c =

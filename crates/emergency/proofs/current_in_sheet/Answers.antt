@@ -5,8 +5,5 @@ use Rattle.emergency_rules.proofs.Answers.{answer_given}
 use Rattle.emergency_rules.proofs.Said.{said}
 use Rattle.emergency.proofs.current_in_sheet.Goals as goal
 
-pub given-requires : goal.given-requires
-given-requires c = tt
-
 pub returns : goal.returns
 returns c = said (sheet_sound _) (answer_given _ _ _ (sym c.given.ensures.answer) c.current_given.ensures)

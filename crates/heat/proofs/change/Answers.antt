@@ -5,19 +5,8 @@ use lib.IntN.{pos}
 use Rattle.bounds.specs.Operations.{point_b, add_b}
 use Rattle.bounds.proofs.Sizes.{sized_more}
 use Rattle.history_rules.specs.Rise.{change_of}
-use Rattle.history_rules.proofs.Sizes.{square_most, change_sized, change_is}
+use Rattle.history_rules.proofs.Sizes.{change_sized, change_is}
 use Rattle.heat.proofs.change.Goals as goal
-
-pub whole-requires : goal.whole-requires
-whole-requires c = omega (arith, c.square.ensures, square_most c.requires.1)
-
-pub whole-requires-2 : goal.whole-requires-2
-whole-requires-2 c = omega (arith, c.square-2.ensures, square_most c.requires.0)
-
-pub neg-requires : goal.neg-requires
-neg-requires c =
-    rw (c.whole-2.ensures.is, c.square-2.ensures)
-    (record { low = omega (arith, square_most c.requires.0); high = omega (arith, square_most c.requires.0) })
 
 pub add-requires : goal.add-requires
 add-requires c =

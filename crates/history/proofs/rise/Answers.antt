@@ -1,12 +1,8 @@
 -- The sheet's refusal passes out; an accepted sheet goes to the walk.
 use Rattle.std.proofs.Common.{sym, ◌∙◌}
-use Rattle.history_rules.proofs.Walk.{sheet_refused, begins_plain}
+use Rattle.history_rules.proofs.Walk.{sheet_refused}
 use Rattle.history_rules.proofs.Said.{said}
 use Rattle.history.proofs.rise.Goals as goal
-
-pub walked-requires-clause-begins : goal.walked-requires-clause-begins
-walked-requires-clause-begins c =
-    begins_plain _ (sym c.check_sheet-checked.ensures.answer ∙ c.in-Ok.is) c.ground_of-ground.ensures c.before_first-first.ensures
 
 pub returns-in-Err : goal.returns-in-Err
 returns-in-Err c =

@@ -2,12 +2,10 @@
 use mathlib.Core.Path.{◌≡◌, sym, ◌∙◌}
 use mathlib.Core.Bool.{false}
 use Prim.Native.Nat.{◌≤◌}
-use native.Mathlib.Omega.{arith}
 use lib.IntN.{nat_abs}
 use Rattle.ranges.specs.Ranges.{outside, ◌to◌}
-use Rattle.ranges.proofs.Ranges.{passed_within}
 use Rattle.sheet_rules.specs.Neighbours.{neighbour_of, most_offset, least_depth, most_depth}
-use Rattle.sheet_rules.proofs.NeighbourChecks.{link_missing, link_not_above, offset_refused, depth_refused, near_refused, neighbour_accepted, near_most}
+use Rattle.sheet_rules.proofs.NeighbourChecks.{link_missing, link_not_above, offset_refused, depth_refused, near_refused, neighbour_accepted}
 use Rattle.neighbours.proofs.check_neighbour.Goals as goal
 
 pub returns-in_default : goal.returns-in_default
@@ -32,19 +30,6 @@ returns-then-outside c =
           c.refused_at-then-outside.ensures
           ∙ depth_refused _ _ _ c.in-Some.is c.if-record-holder.false offset_within (sym c.outside.ensures ∙ c.if-outside.true);
     }
-
-pub near_of-requires : goal.near_of-requires
-near_of-requires c =
-    let depth_within : outside (least_depth to most_depth) c.in-Some.record.amperes ≡ false = sym c.outside.ensures ∙ c.if-outside.false in
-    let depth_most : c.in-Some.record.amperes ≤ most_depth = (passed_within least_depth most_depth _ depth_within).1 in
-    (c.requires.depth_to, depth_most)
-
-pub overflow_mul-near_of : goal.overflow_mul-near_of
-overflow_mul-near_of c =
-    let offset_within : nat_abs (neighbour_of c.in-Some.record).offset ≤ most_offset = rw c.aside.ensures.0 at c.if-aside-gt-MOST_OFFSET.false in
-    let depth_within : outside (least_depth to most_depth) c.in-Some.record.amperes ≡ false = sym c.outside.ensures ∙ c.if-outside.false in
-    let depth_most : c.in-Some.record.amperes ≤ most_depth = (passed_within least_depth most_depth _ depth_within).1 in
-    omega (arith, c.near_of.ensures, near_most _ c.in-Some.record c.requires.depth_to offset_within depth_most)
 
 pub returns-then-near_of-square : goal.returns-then-near_of-square
 returns-then-near_of-square c =

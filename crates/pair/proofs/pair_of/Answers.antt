@@ -5,9 +5,6 @@ use Rattle.share_rules.specs.Pair.{share_pair_is}
 use Rattle.pair.proofs.AtNeighbour.{share_of_sums_asked}
 use Rattle.pair.proofs.pair_of.Goals as goal
 
-pub sums_in-requires : goal.sums_in-requires
-sums_in-requires c = record { minutes = c.args.minutes; timed = c.requires; seconds_are = refl }
-
 pub attained_share-requires : goal.attained_share-requires
 attained_share-requires c =
     share_of_sums_asked (record { minutes = c.args.minutes; timed = c.requires; seconds_are = refl }) c.sums_in.ensures

@@ -5,8 +5,5 @@ use Rattle.share_rules.proofs.Answers.{answer_given}
 use Rattle.share_rules.proofs.Promises.{said}
 use Rattle.share.proofs.share_in_sheet.Goals as goal
 
-pub given-requires : goal.given-requires
-given-requires c = tt
-
 pub returns : goal.returns
 returns c = said (sheet_sound _) (answer_given _ (sym c.given.ensures.answer) c.share_given.ensures)

@@ -1,15 +1,11 @@
 -- `share::share_of` refuses the minutes or gives the pair. Assumes nothing.
 use mathlib.Core.Path.{sym, ap, ◌∙◌}
 use Rattle.share_rules.specs.declared.ShareAnswer.TheVariants.{Pair}
-use Rattle.share_rules.proofs.Answers.{minutes_refused, minutes_accepted, share_given}
+use Rattle.share_rules.proofs.Answers.{minutes_refused, share_given}
 use Rattle.share.proofs.share_of.Goals as goal
 
 pub returns-then-outside : goal.returns-then-outside
 returns-then-outside c = minutes_refused _ _ (sym c.outside.ensures ∙ c.if-outside.true)
-
-pub pair_of-requires : goal.pair_of-requires
-pair_of-requires c =
-    record { accepted = minutes_accepted _ _ (sym c.outside.ensures ∙ c.if-outside.false) c.args.ground.laid.acceptable }
 
 pub returns : goal.returns
 returns c =

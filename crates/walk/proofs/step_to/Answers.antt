@@ -11,9 +11,6 @@ pub returns-in_default : goal.returns-in_default
 returns-in_default c =
     absurd (share_not_refused c.args.ground c.requires.0 c.requires.1 (sym c.share_of-answer.ensures ∙ c.in_default.is))
 
-pub change-requires : goal.change-requires
-change-requires c = (c.requires.0.amperes_most, c.requires.1.amperes_most)
-
 pub mul-requires : goal.mul-requires
 mul-requires c =
     let paired : share_from (group_at c.args.ground) c.args.next.minutes ≡ S.Pair c.in-Pair.pair = sym c.share_of-answer.ensures ∙ c.in-Pair.is in
