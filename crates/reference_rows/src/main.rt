@@ -134,7 +134,7 @@ fn print_counts(rt: &HostRuntime, counts: Counts) {
     let _ = println!(rt; "{inside} rows inside, {outside} outside, {unreadable} unreadable");
 }
 
-// A program that tests has nowhere to tell that a line was lost.
+// A program that tests has nowhere to tell that a line was lost. One line here and in `rise_files`: a crate for the two would be longer.
 fn put(rt: &HostRuntime, text: &[u8]) {
     let _ = rt.stdout().write_all(text);
 }

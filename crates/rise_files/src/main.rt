@@ -189,6 +189,7 @@ fn print_counts(rt: &HostRuntime, counts: Counts) {
     );
 }
 
+// As the one line of `reference_rows`; a crate for the two would be longer.
 fn put(rt: &HostRuntime, text: &[u8]) {
     let _ = rt.stdout().write_all(text);
 }

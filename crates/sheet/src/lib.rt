@@ -89,7 +89,7 @@ pub fn ground_of(sheet: &[u8], header: Header) -> Ground<'_>
     }
 }
 
-// What a calculation takes of an accepted sheet's header.
+// What a calculation takes of an accepted sheet's header. No `From`, which would stand beside the types, in a crate that has definitions alone.
 pub fn trench_of(header: Header) -> Trench
     ensures { TrenchSaid header result }
 {
