@@ -1,16 +1,17 @@
 -- A word that is one of the names, and one that is none of them.
 use Rattle.std.proofs.Common.{◌≡◌, ℕ, Bool, true, false, refl, ap, sym, subst, List}
-use Rattle.std.specs.Prelude.{None, IsUtf8, encode_utf8_all, bytes_eq, codes}
+use Rattle.std.specs.Prelude.{None, IsUtf8, encode_utf8_all, codes}
 use lib.Utf8.{scalars, encode}
-use Rattle.std.proofs.lemmas.Slice.Eq.{bytes_eq-Decides}
+use Rattle.text.specs.Reading.{same_bytes}
+use Rattle.text.proofs.Equality.{same_to}
 use Rattle.lines.specs.Lines.{rise_word}
 use Rattle.commands.specs.Names.{command_of, share_word, factor_word, current_word, explain_word}
 
-differs : (word name : List ℕ) → (word ≡ name → ⊥) → bytes_eq word name ≡ false
-differs word name other = by_test (bytes_eq word name) refl
+differs : (word name : List ℕ) → (word ≡ name → ⊥) → same_bytes word name ≡ false
+differs word name other = by_test (same_bytes word name) refl
   where
-    by_test : (b : Bool) → bytes_eq word name ≡ b → b ≡ false
-    by_test true e = absurd (other ((bytes_eq-Decides word name).0 e))
+    by_test : (b : Bool) → same_bytes word name ≡ b → b ≡ false
+    by_test true e = absurd (other (same_to word name e))
     by_test false e = refl
 
 pub by_name : (word name : List ℕ) → word ≡ name → command_of name ≡ command_of word

@@ -1,5 +1,6 @@
 -- The names of the commands, in ASCII.
-use Rattle.std.specs.Prelude.{Bool, true, cond, List, ℕ, Option, Some, None, bytes_eq, codes}
+use Rattle.std.specs.Prelude.{Bool, true, cond, List, ℕ, Option, Some, None, codes}
+use Rattle.text.specs.Reading.{same_bytes}
 use Rattle.lines.specs.Lines.{rise_word}
 use Rattle.commands.specs.declared.Asked.TheVariants.{Share, Factor, Current}
 use Rattle.commands.specs.declared.Command.{Command}
@@ -20,22 +21,22 @@ explain_word = codes "explain"
 
 abbrev pub asks_help : List ℕ → Bool
 asks_help word =
-    cond (bytes_eq word (codes "help")) true
-    (cond (bytes_eq word (codes "--help")) true
-    (bytes_eq word (codes "-h")))
+    cond (same_bytes word (codes "help")) true
+    (cond (same_bytes word (codes "--help")) true
+    (same_bytes word (codes "-h")))
 
 abbrev pub asks_version : List ℕ → Bool
 asks_version word =
-    cond (bytes_eq word (codes "version")) true
-    (bytes_eq word (codes "--version"))
+    cond (same_bytes word (codes "version")) true
+    (same_bytes word (codes "--version"))
 
 unfoldable pub command_of : List ℕ → Option Command
 command_of word =
-    cond (bytes_eq word share_word) (Some (Calculate Share))
-    (cond (bytes_eq word factor_word) (Some (Calculate Factor))
-    (cond (bytes_eq word current_word) (Some (Calculate Current))
-    (cond (bytes_eq word rise_word) (Some Rise)
-    (cond (bytes_eq word explain_word) (Some Explain)
+    cond (same_bytes word share_word) (Some (Calculate Share))
+    (cond (same_bytes word factor_word) (Some (Calculate Factor))
+    (cond (same_bytes word current_word) (Some (Calculate Current))
+    (cond (same_bytes word rise_word) (Some Rise)
+    (cond (same_bytes word explain_word) (Some Explain)
     (cond (asks_help word) (Some Help)
     (cond (asks_version word) (Some Version)
     None))))))

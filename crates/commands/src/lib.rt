@@ -28,7 +28,7 @@ pub fn command_of(word: &[u8]) -> Option<Command>
     named(std::str::from_utf8(word).ok()?)
 }
 
-#[tactic(auto, using(crate::proofs::ByName::by_name, crate::proofs::ByName::by_none), unfolding(crate::specs::Names::command_of))]
+#[tactic(auto, using(crate::proofs::ByName::by_name, crate::proofs::ByName::by_none), unfolding(crate::specs::Names::command_of, text::specs::Reading::same_bytes))]
 fn named(word: &str) -> Option<Command>
     ensures { result ≡ command_of word.now }
 {

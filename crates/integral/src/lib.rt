@@ -76,8 +76,8 @@ fn row(ends: (u32, u32)) -> Bounds
 {
     let (low, high) = ends;
     Bounds {
-        low: i64::from(low),
-        high: i64::from(high),
+        low: numbers::wide(low),
+        high: numbers::wide(high),
     }
 }
 
@@ -117,7 +117,7 @@ impl KnotSlice {
         ensures { result ≡ as_bounds (any_slice (max near self.x) (min far self.y) self.diffusion) }
     {
         let start = near.max(self.x);
-        let end = far.min(self.y);
+        let end = numbers::least(far, self.y);
         if start < end {
             let decay = self.end_exp(far);
             heat_slice(start, end, self.diffusion, decay)
@@ -222,7 +222,7 @@ impl Reach {
         let diffusion = self.diffusion;
         let mut sum = first;
         let mut start = self.near;
-        let mut end = self.far.min(diffusion);
+        let mut end = numbers::least(self.far, diffusion);
         let mut divisor = diffusion;
         for (k, &ends) in HALF.iter().enumerate() {
             if diffusion <= start {
@@ -239,7 +239,7 @@ impl Reach {
             };
             let part = slice.part(start, end, row(ends));
             sum = self.joined(sum, part);
-            end = end.min(diffusion);
+            end = numbers::least(end, diffusion);
         }
         sum
     }

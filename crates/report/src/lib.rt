@@ -36,18 +36,37 @@ pub fn read_input<R: Read>(reader: &mut R, buffer: &mut [u8]) -> io::Result<usiz
 // In bytes. Longer than the longest sheet, so that a longer input is refused for its length and not cut.
 pub const SHEET_ROOM: usize = 1024;
 
-// What `rise` answers for the sheet that a reader gives, or why it could not be read.
-pub fn rise_from<R: Read, F: Fn(&[u8]) -> RiseAnswer>(
-    reader: &mut R,
-    rise: F,
-) -> io::Result<RiseAnswer>
-    requires callable { F.IsAlwaysCallable rise }
-    requires rises { (sheet : _) (answer : _) → F.post rise sheet answer → RiseSaid (history_of sheet.now) answer }
+// What a sheet's chain is walked by. A trait and no closure: what is handed in has its promise by its type, so that `rise_from` asks for none.
+pub trait Walk {
+    fn rise(&self, sheet: &[u8]) -> RiseAnswer
+        ensures { RiseSaid (history_of sheet.now) result };
+}
+
+#[derive(Clone, Copy)]
+pub struct Plain;
+
+impl Walk for Plain {
+    fn rise(&self, sheet: &[u8]) -> RiseAnswer {
+        history::rise(sheet)
+    }
+}
+
+#[derive(Clone, Copy)]
+pub struct ByReader;
+
+impl Walk for ByReader {
+    fn rise(&self, sheet: &[u8]) -> RiseAnswer {
+        history::rise_by_reader(sheet)
+    }
+}
+
+// The rise of the sheet that a reader gives, or why it could not be read.
+pub fn rise_from<R: Read, W: Walk>(reader: &mut R, walk: &W) -> io::Result<RiseAnswer>
     ensures { FromBytes result }
 {
     let mut buffer = [0u8; SHEET_ROOM];
     let length = read_input(reader, &mut buffer)?;
-    Ok(rise(&buffer[..length]))
+    Ok(walk.rise(&buffer[..length]))
 }
 
 // `rise LOW HIGH` or `refused NUMBER PLACE`, and the line's end.

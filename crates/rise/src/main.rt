@@ -10,7 +10,7 @@ fn main(rt: HostRuntime) {
             .write_all(b"usage: no words wanted: rise < SHEET\n");
         return;
     }
-    match report::rise_from(&mut rt.stdin(), history::rise) {
+    match report::rise_from(&mut rt.stdin(), &report::Plain) {
         Ok(answer) => report::print_rise(&rt, answer, b"rise: the answer cannot be written"),
         Err(error) => report::fail(&rt, b"rise: standard input cannot be read", error),
     }

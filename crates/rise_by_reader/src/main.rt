@@ -11,10 +11,7 @@ fn main(rt: HostRuntime) {
             .write_all(b"usage: no words wanted: rise_by_reader < SHEET\n");
         return;
     }
-    // By a closure: a function of a private module gets no proof where it is handed on by name.
-    match report::rise_from(&mut rt.stdin(), |sheet: &[u8]| {
-        history::rise_by_reader(sheet)
-    }) {
+    match report::rise_from(&mut rt.stdin(), &report::ByReader) {
         Ok(answer) => report::print_rise(
             &rt,
             answer,

@@ -10,6 +10,7 @@ ghost use Rattle.rise_files.specs.Words.{most_words};
 use bounds::Bounds;
 use history::RiseAnswer;
 use refusals::Parts;
+use report::{ByReader, Plain, Walk};
 use std::fs;
 use std::io::{Error, ErrorKind, Print};
 use std::rt::Env;
@@ -83,18 +84,10 @@ fn print_word(rt: &HostRuntime, k: usize) {
     }
 }
 
-// Two short functions, by either walk, since each hands in another one.
-fn plain_rise(rt: &HostRuntime, k: usize) -> std::io::Result<RiseAnswer> {
+// The rise of the sheet that argument k names, by either walk.
+fn rise_by<W: Walk>(rt: &HostRuntime, k: usize, walk: &W) -> std::io::Result<RiseAnswer> {
     let mut sheet = sheet_named(rt, k)?;
-    report::rise_from(&mut sheet, history::rise)
-}
-
-// By a closure: a function of a private module gets no proof where it is handed on by name.
-fn rise_by_reader(rt: &HostRuntime, k: usize) -> std::io::Result<RiseAnswer> {
-    let mut sheet = sheet_named(rt, k)?;
-    report::rise_from(&mut sheet, |sheet: &[u8]| {
-        history::rise_by_reader(sheet)
-    })
+    report::rise_from(&mut sheet, walk)
 }
 
 // The file of the sheet that argument k names.
@@ -116,12 +109,12 @@ fn report_sheet(rt: &HostRuntime, k: usize) -> bool
 {
     print_word(rt, k);
     put(rt, b": ");
-    let Ok(plain) = plain_rise(rt, k) else {
+    let Ok(plain) = rise_by(rt, k, &Plain) else {
         put(rt, b"cannot be read\n");
         return false;
     };
     print_row(rt, plain, k);
-    let Ok(other) = rise_by_reader(rt, k) else {
+    let Ok(other) = rise_by(rt, k, &ByReader) else {
         put(rt, b"by the reader: cannot be read\n");
         return false;
     };
@@ -162,7 +155,12 @@ fn print_against(rt: &HostRuntime, k: usize, j: usize) {
     put(rt, b" against ");
     print_word(rt, j);
     put(rt, b": ");
-    let (Ok(plain), Ok(other)) = (plain_rise(rt, k), rise_by_reader(rt, j)) else {
+    let Ok(plain) = rise_by(rt, k, &Plain) else {
+        put(rt, b"cannot be read\n");
+        return;
+    };
+    // Not opened where the first cannot be read: it may be one that never ends.
+    let Ok(other) = rise_by(rt, j, &ByReader) else {
         put(rt, b"cannot be read\n");
         return;
     };

@@ -1,5 +1,5 @@
 -- Numbers written as a text, with the fewest digits, and the line that they are written into.
-use Rattle.std.specs.Prelude.{◌≡◌, List, [], ◌∷◌, ◌++◌, ℕ, zero, suc, ◌+◌, ◌/◌, ◌%◌, ◌≤◌, ℤ, pos, negsuc, length}
+use Rattle.std.specs.Prelude.{◌≡◌, List, [], ◌∷◌, ◌++◌, ℕ, zero, suc, ◌+◌, ◌/◌, ◌%◌, ◌≤◌, ℤ, pos, negsuc, length, take}
 use Rattle.text.specs.Reading.{zero_digit, minus_sign}
 use Rattle.text.specs.declared.Line.{Line}
 
@@ -30,10 +30,10 @@ abbrev pub line_room : ℕ
 line_room = 80
 
 abbrev pub written : Line → List ℕ
-written line = line.text.items
+written line = take line.length line.bytes
 
 abbrev pub line_length : Line → ℕ
-line_length line = length (written line)
+line_length line = line.length
 
 pub record Appended (before : Line) (added : List ℕ) (after : Line) : Type 0 where
   pub text : written after ≡ written before ++ added

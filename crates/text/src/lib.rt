@@ -5,7 +5,6 @@ ghost use Rattle.std.specs.Prelude.{◌≡◌, [], ◌+◌, ◌<◌, ◌≤◌, 
 ghost use Rattle.text.specs.Reading.{number_of, beyond_signed, with_sign, as_integer, signed_of};
 ghost use Rattle.text.specs.Writing.{decimal_text, signed_text, line_room, number_room, written, line_length, Appended, AppendedNumber};
 
-use arrayvec::ArrayVec;
 use itoa::Buffer;
 
 // Above every number of 18 digits.
@@ -72,10 +71,11 @@ fn with_sign(size: u64, minus: bool) -> i64
 // The bytes of the longest line.
 const LINE_ROOM: usize = 80;
 
-// A line of output in the making.
-#[derive(Drop)]
+// A line of output in the making: its first `length` bytes are written. A line can be copied, which an `ArrayVec` cannot.
+#[derive(Clone, Copy)]
 pub struct Line {
-    text: ArrayVec<u8, LINE_ROOM>,
+    pub bytes: [u8; LINE_ROOM],
+    pub length: usize,
 }
 
 impl Line {
@@ -83,14 +83,15 @@ impl Line {
         ensures { (written result ≡ []) × (line_length result ≡ 0) }
     {
         Line {
-            text: ArrayVec::new(),
+            bytes: [0; LINE_ROOM],
+            length: 0,
         }
     }
 
     pub fn as_slice(&self) -> &[u8]
         ensures { result.now ≡ written self.now }
     {
-        self.text.as_slice()
+        &self.bytes[..self.length.min(LINE_ROOM)]
     }
 
     // The text after what is written.
@@ -98,9 +99,10 @@ impl Line {
         requires { line_length self + length more.now ≤ line_room }
         ensures { Appended self more.now result }
     {
-        let Line { mut text } = self;
-        text.try_extend_from_slice(more).unwrap();
-        Line { text }
+        let length = self.length + more.len();
+        let mut bytes = self.bytes;
+        bytes[self.length..length].copy_from_slice(more);
+        Line { bytes, length }
     }
 
     // In decimal, of 20 digits at most. No generic function with `with_signed`: each is one call, and promises a definition of its own.

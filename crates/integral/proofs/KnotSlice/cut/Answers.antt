@@ -6,8 +6,8 @@ use Rattle.integral.proofs.KnotSlice.cut.Goals as goal
 
 pub returns-then-start-end : goal.returns-then-start-end
 returns-then-start-end c =
-    c.heat_slice.ensures ∙ cut_some c.args.near c.args.far c.args.self.below.slice c.max-start.ensures c.min-end.ensures (omega arith)
+    c.heat_slice.ensures ∙ cut_some c.args.near c.args.far c.args.self.below.slice c.max-start.ensures c.least-end.ensures (omega arith)
 
 pub returns-else-start-end : goal.returns-else-start-end
 returns-else-start-end c =
-    c.whole.ensures.is ∙ cut_none c.args.near c.args.far c.args.self.below.slice c.max-start.ensures c.min-end.ensures (omega arith)
+    c.whole.ensures.is ∙ cut_none c.args.near c.args.far c.args.self.below.slice c.max-start.ensures c.least-end.ensures (omega arith)

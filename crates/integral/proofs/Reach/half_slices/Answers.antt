@@ -7,7 +7,7 @@ use Rattle.integral.proofs.Turns.{half_begin, divisor_small, half_below, half_al
 use Rattle.integral.proofs.Reach.half_slices.Goals as goal
 
 pub loop-k-init : goal.loop-k-init
-loop-k-init c = half_begin c.args.self.span c.requires c.min-end.ensures
+loop-k-init c = half_begin c.args.self.span c.requires c.least-end.ensures
 
 pub overflow_mul-divisor : goal.overflow_mul-divisor
 overflow_mul-divisor c = let h = divisor_small c.args.self.span c.requires (omega arith) c.loop-k.invariant in omega arith
@@ -27,7 +27,7 @@ joined-sum-requires c =
 
 pub loop-k-preserved : goal.loop-k-preserved
 loop-k-preserved c =
-    half_again c.args.self.span c.requires (omega arith) c.loop-k.invariant (c.row.ensures ∙ ap as_bounds (half_row _ (omega arith))) c.part-part.ensures c.joined-sum.ensures c.min-end-in-loop-k.ensures
+    half_again c.args.self.span c.requires (omega arith) c.loop-k.invariant (c.row.ensures ∙ ap as_bounds (half_row _ (omega arith))) c.part-part.ensures c.joined-sum.ensures c.least-end-in-loop-k.ensures
 
 pub returns-then-diffusion-start : goal.returns-then-diffusion-start
 returns-then-diffusion-start c = half_done c.args.self.span c.requires (omega arith) c.loop-k.invariant
