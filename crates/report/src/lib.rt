@@ -42,6 +42,7 @@ pub trait Walk {
         ensures { RiseSaid (history_of sheet.now) result };
 }
 
+// Each record is read from the bytes: `history::rise`.
 #[derive(Clone, Copy)]
 pub struct Plain;
 
@@ -51,6 +52,7 @@ impl Walk for Plain {
     }
 }
 
+// Each record is read by the sheet's reader: `history::rise_by_reader`.
 #[derive(Clone, Copy)]
 pub struct ByReader;
 

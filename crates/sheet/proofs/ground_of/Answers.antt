@@ -1,6 +1,5 @@
 -- All of an accepted sheet is accepted. Assumes nothing.
 use Rattle.std.proofs.Common.{rules}
-use Rattle.sheet_rules.specs.Promises.{TrenchSaid}
 use Rattle.sheet_rules.proofs.SheetChecks.{accepted_sheet, trench_laid}
 use Rattle.sheet.proofs.ground_of.Goals as goal
 
